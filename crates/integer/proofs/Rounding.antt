@@ -1,0 +1,149 @@
+-- Laws of floor division, nearest numbers, R and clip (specs/Rounding.antt). `floor u m` is the q with m q ≤ u < m q + m.
+-- Assumes nothing.
+use mathlib.Core.Path.{_≡_, refl, sym, ap, _∙_}
+use mathlib.Core.Bool.{true, false}
+use Prim.Native.Nat.{ℕ, suc, _+_, _-_, _*_, _/_, _≤_, _<_, min}
+use native.Mathlib.Omega.{arith}
+use native.Mathlib.Nat.{div-add-mod', mod-lt, mul-le-mul-right, add-div-right}
+use native.Mathlib.Numerals.{add-one}
+use native.Mathlib.Decide.{decLt}
+use borrow.Author.Tests.{le-ltb}
+use lib.IntN.{ℤ, pos, negsuc, negℤ, natAbs, _+ℤ_, _-ℤ_, _*ℤ_}
+use lib.Signed.{_≤ℤ_, _<ℤ_, quotZ, ltZ}
+use Rattle.integer.specs.Parts.{up, dn}
+use Rattle.integer.proofs.View.{+v, -v, *v, negv, absv, near, onev, quotv, Zs}
+use Rattle.integer.proofs.Ring.{times}
+use Rattle.integer.specs.Rounding.{floor, Nearest, nearest, R, M, clip}
+
+-- ---- floor: its two parts, m q ≤ u and u < m q + m
+pub floorv : (u : ℤ) (m : ℕ) → 0 < m
+    → (m * up (floor u m) + dn u ≤ up u + m * dn (floor u m))
+    × (up u + m * dn (floor u m) < m * up (floor u m) + dn u + m)
+unfolding floor
+floorv (pos a) m h = omega (arith, div-add-mod' a m, mod-lt a h)
+floorv (negsuc a) m h = omega (arith, div-add-mod' a m, mod-lt a h)
+
+pub floor-low : (u : ℤ) (m : ℕ) → 0 < m → (pos m *ℤ floor u m) ≤ℤ u
+floor-low u m h = omega (Zs, floorv u m h, *v (pos m) (floor u m))
+
+pub floor-high : (u : ℤ) (m : ℕ) → 0 < m → u <ℤ (pos m *ℤ floor u m +ℤ pos m)
+floor-high u m h = omega (Zs, floorv u m h, *v (pos m) (floor u m), +v (pos m *ℤ floor u m) (pos m))
+
+-- m a < m b + m gives a ≤ b, by cases on b < a
+below : (m a b : ℕ) → 0 < m → m * a < m * b + m → a ≤ b
+below m a b h k = go (decLt b a)
+  where
+    go : Dec (b < a) → a ≤ b
+    go (yes g) = absurd (omega (arith, mul-le-mul-right m g))
+    go (no g) = omega arith
+
+-- the same of integers, in parts
+belowv : (m : ℕ) (q p : ℤ) → 0 < m → m * up q + m * dn p < m * up p + m * dn q + m → q ≤ℤ p
+belowv m q p h k = omega (Zs, below m (up q + dn p) (up p + dn q) h (omega arith))
+
+pub floor-only : (u q : ℤ) (m : ℕ) → 0 < m → (pos m *ℤ q) ≤ℤ u → u <ℤ (pos m *ℤ q +ℤ pos m) → q ≡ floor u m
+floor-only u q m h l k =
+    omega (
+      Zs,
+      belowv m q (floor u m) h (omega (Zs, floorv u m h, *v (pos m) q)),
+      belowv m (floor u m) q h (omega (Zs, floorv u m h, *v (pos m) q, +v (pos m *ℤ q) (pos m))),
+    )
+
+-- equal fractions have the same floor
+pub floor-same : (u v : ℤ) (m n : ℕ) → 0 < m → 0 < n → u *ℤ pos n ≡ v *ℤ pos m → floor u m ≡ floor v n
+floor-same u v m n h k e =
+    let f = floor u m in
+    let uv : up u * n + dn v * m ≡ up v * m + dn u * n = omega (Zs, *v u (pos n), *v v (pos m)) in
+    let low = mul-le-mul-right n (floorv u m h .0) in
+    let high = mul-le-mul-right n (floorv u m h .1) in
+    let X = pos n *ℤ f in
+    floor-only v f n k
+    (belowv m X v h (omega (arith, low, times m (*v (pos n) f))))
+    (omega (Zs, belowv m (v +ℤ pos 1) (X +ℤ pos n) h (omega (arith, high, times m (*v (pos n) f), times m (+v X (pos n)), times m (+v v (pos 1)))), +v v (pos 1)))
+
+≥0-ltZ : (z : ℤ) → dn z ≤ up z → ltZ z (pos 0) ≡ false
+≥0-ltZ (pos a) h = le-ltb a 0 (omega arith)
+≥0-ltZ (negsuc a) h = absurd (omega arith)
+
+-- the division toward zero is the floor where u is not below 0
+pub floor-quot : (u : ℤ) (m : ℕ) → ltZ u (pos 0) ≡ false → quotZ u (pos m) ≡ floor u m
+unfolding floor
+floor-quot (pos a) m e = refl
+floor-quot (negsuc a) m e = absurd (omega Zs)
+
+-- below 0 it is the floor of what is m - 1 more
+pub floor-quot-below : (u : ℤ) (m : ℕ) → 0 < m → ltZ u (pos 0) ≡ true
+    → quotZ (u -ℤ (pos m -ℤ pos 1)) (pos m) ≡ floor u m
+unfolding floor
+floor-quot-below (pos a) m h e = absurd (omega Zs)
+floor-quot-below (negsuc a) m h e =
+    let i : negsuc a -ℤ (pos m -ℤ pos 1) ≡ negsuc (a + (m - 1)) = omega (Zs, -v (negsuc a) (pos m -ℤ pos 1), -v (pos m) (pos 1)) in
+    let j : suc (a + (m - 1)) ≡ a + m = omega arith in
+    ap (λ (z : ℤ). quotZ z (pos m)) i ∙ ap (λ (n : ℕ). negℤ (pos n)) (ap (λ (n : ℕ). n / m) j ∙ add-div-right a h ∙ add-one (a / m))
+
+-- moved above zero by K times m, divided, and moved back
+pub floor-moved : (u : ℤ) (m K : ℕ) → 0 < m → natAbs u ≤ m * K → quotZ (u +ℤ pos (m * K)) (pos m) -ℤ pos K ≡ floor u m
+floor-moved u m K h k =
+    let z = u +ℤ pos (m * K) in
+    let f = floor z m in
+    let q = f -ℤ pos K in
+    let l = times m (-v f (pos K)) in
+    ap (λ (x : ℤ). x -ℤ pos K) (floor-quot z m (≥0-ltZ z (omega (Zs, absv u, +v u (pos (m * K))))))
+    ∙ floor-only u q m h
+    (omega (Zs, floorv z m h, +v u (pos (m * K)), *v (pos m) q, l))
+    (omega (Zs, floorv z m h, +v u (pos (m * K)), *v (pos m) q, +v (pos m *ℤ q) (pos m), l))
+
+-- ---- nearest
+pub nearest-is : (p : ℤ) (q : ℕ) → 0 < q → Nearest p q (nearest p q)
+unfolding nearest
+nearest-is p q h = record { low = floor-low (pos 2 *ℤ p +ℤ pos q) (2 * q) (omega arith); high = floor-high (pos 2 *ℤ p +ℤ pos q) (2 * q) (omega arith) }
+
+pub nearest-only : (p : ℤ) (q : ℕ) (A : ℤ) → 0 < q → Nearest p q A → A ≡ nearest p q
+unfolding nearest
+nearest-only p q A h n = floor-only (pos 2 *ℤ p +ℤ pos q) A (2 * q) (omega arith) (n .low) (n .high)
+
+-- equal fractions have the same nearest number
+pub nearest-same : (p s : ℤ) (q r : ℕ) → 0 < q → 0 < r → p *ℤ pos r ≡ s *ℤ pos q → nearest p q ≡ nearest s r
+unfolding nearest
+nearest-same p s q r h k e =
+    let u = pos 2 *ℤ p +ℤ pos q in
+    let v = pos 2 *ℤ s +ℤ pos r in
+    let pr : up p * r + dn s * q ≡ up s * q + dn p * r = omega (Zs, *v p (pos r), *v s (pos q)) in
+    let uv : up u * r + dn v * q ≡ up v * q + dn u * r = omega (arith, times r (+v (pos 2 *ℤ p) (pos q)), times r (*v (pos 2) p), times q (+v (pos 2 *ℤ s) (pos r)), times q (*v (pos 2) s)) in
+    floor-same u v (2 * q) (2 * r) (omega arith) (omega arith) (omega (Zs, *v u (pos (2 * r)), *v v (pos (2 * q))))
+
+-- ---- R
+pub Rv : (u : ℤ)
+    → (65536 * up (R u) + dn u ≤ up u + 65536 * dn (R u) + 32768)
+    × (up u + 65536 * dn (R u) < 65536 * up (R u) + dn u + 32768)
+unfolding R
+Rv u = omega (arith, floorv (u +ℤ pos 32768) 65536 (omega arith), +v u (pos 32768))
+
+pub R-abs : (u : ℤ) (B : ℕ) → natAbs u ≤ 65536 * B → natAbs (R u) ≤ B
+R-abs u B h = near (R u) (omega (arith, Rv u, absv u))
+
+-- numbers at most 32,768 E apart are rounded to numbers at most half of E apart, upward
+pub R-near : (u v : ℤ) (E : ℕ) → natAbs (u -ℤ v) ≤ 32768 * E → natAbs (R u -ℤ R v) ≤ (E + 1) / 2
+R-near u v E h = near (R u -ℤ R v) (omega (arith, Rv u, Rv v, -v u v, absv (u -ℤ v), -v (R u) (R v)))
+
+-- ---- clip
+pub clipv : (u : ℤ) → (up (clip u) ≡ min (up u) M) × (dn (clip u) ≡ min (dn u) M)
+unfolding clip
+clipv (pos n) = (refl, omega arith)
+clipv (negsuc n) = omega (arith, negv (pos (min (suc n) M)))
+
+pub clip-abs : (u : ℤ) → natAbs (clip u) ≤ M
+clip-abs u = near (clip u) (omega (arith, clipv u))
+
+pub clip-near : (u v : ℤ) (E : ℕ) → natAbs (u -ℤ v) ≤ E → natAbs (clip u -ℤ clip v) ≤ E
+clip-near u v E h =
+    near (clip u -ℤ clip v)
+    (omega (arith, clipv u, clipv v, onev u, onev v, -v u v, absv (u -ℤ v), -v (clip u) (clip v)))
+
+-- within the limits a number is kept, and no number within them is nearer to u than `clip u` is
+pub clip-kept : (u : ℤ) → natAbs u ≤ M → clip u ≡ u
+clip-kept u h = omega (Zs, clipv u, absv u, onev u)
+
+pub clip-nearest : (u z : ℤ) → natAbs z ≤ M → natAbs (u -ℤ clip u) ≤ natAbs (u -ℤ z)
+clip-nearest u z h =
+    near (u -ℤ clip u) (omega (arith, clipv u, onev u, absv z, absv (u -ℤ z), -v u (clip u), -v u z))

@@ -1,0 +1,67 @@
+// Signed whole numbers: clipping, floor division and rounding built on truncating division, and the wrapping product.
+// A signed number goes between functions in a struct, so that a contract reads the number and not its bits.
+ghost use mathlib.Core.Path.{_≡_};
+ghost use Prim.Native.Nat.{_+_, _*_, _%_, _^_, _≤_, _<_};
+ghost use lib.IntN.{natAbs};
+ghost use Rattle.integer.specs.Rounding.{R, clip as Clip, floor, nearest as Nearest};
+
+pub struct Value {
+    pub n: i64,
+}
+
+// The sample that is nearest to u.
+pub fn clip(u: Value) -> Value
+    ensures { λ r. ⌜ r .n ≡ Clip (u .n) ⌝ }
+{
+    if u.n > 8_388_607 {
+        return Value { n: 8_388_607 };
+    }
+    if u.n < -8_388_607 {
+        return Value { n: -8_388_607 };
+    }
+    u
+}
+
+// R(u): u / 65,536 to the nearest, a half upward. What is divided is moved above zero by 2^24 times 65,536.
+pub fn round_q16(u: Value) -> Value
+    requires { ⌜ natAbs (u .n) ≤ 2 ^ 39 ⌝ }
+    ensures { λ r. ⌜ r .n ≡ R (u .n) ⌝ }
+{
+    Value { n: (u.n + 1_099_511_660_544) / 65_536 - 16_777_216 }
+}
+
+// u / 131,072 downward, moved above zero by 2^24 times 131,072.
+pub fn floor_q17(u: Value) -> Value
+    requires { ⌜ natAbs (u .n) ≤ 2 ^ 41 ⌝ }
+    ensures { λ r. ⌜ r .n ≡ floor (u .n) 131072 ⌝ }
+{
+    Value { n: (u.n + 2_199_023_255_552) / 131_072 - 16_777_216 }
+}
+
+// u / m downward, by the sign of u.
+pub fn floor_div(u: Value, m: u64) -> Value
+    requires { ⌜ (0 < m) × (natAbs (u .n) + m ≤ 2 ^ 62) ⌝ }
+    ensures { λ r. ⌜ r .n ≡ floor (u .n) m ⌝ }
+{
+    let k = m as i64;
+    if u.n < 0 {
+        return Value { n: (u.n - (k - 1)) / k };
+    }
+    Value { n: u.n / k }
+}
+
+// p / q to the nearest, a half upward.
+pub fn nearest(p: Value, q: u64) -> Value
+    requires { ⌜ (0 < q) × (2 * natAbs (p .n) + 3 * q ≤ 2 ^ 62) ⌝ }
+    ensures { λ r. ⌜ r .n ≡ Nearest (p .n) q ⌝ }
+{
+    let k = q as i64;
+    floor_div(Value { n: 2 * p.n + k }, 2 * q)
+}
+
+// a times b, modulo 2^32.
+pub fn wrapping_mul_u32(a: u32, b: u32) -> u32
+    ensures { λ r. ⌜ r ≡ (a * b) % 2 ^ 32 ⌝ }
+{
+    ((a as u64) * (b as u64) % 4_294_967_296) as u32
+}

@@ -1,0 +1,29 @@
+// The noise generator of a pluck: a draw by value, which returns the number drawn and the state left.
+// Contracts cite specs/Noise.antt.
+ghost use mathlib.Core.Path.{_≡_};
+ghost use Rattle.noise.specs.Noise.{next as Next, value as Drawing, drawn};
+use integer::wrapping_mul_u32;
+use std::num::wrapping_add_u32;
+
+pub struct Drawn {
+    pub value: i32,
+    pub state: u32,
+}
+
+// The state after one draw.
+fn next(state: u32) -> u32
+    ensures { λ r. ⌜ r ≡ Next state ⌝ }
+{
+    wrapping_add_u32(wrapping_mul_u32(1_664_525, state), 1_013_904_223)
+}
+
+// One draw on a state.
+pub fn draw(state: u32) -> Drawn
+    ensures { λ r. ⌜ r ≡ drawn state ⌝ }
+{
+    let moved = next(state);
+    Drawn {
+        value: (moved / 65_536) as i32 - 32_768,
+        state: moved,
+    }
+}

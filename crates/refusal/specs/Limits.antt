@@ -1,0 +1,22 @@
+-- What a call turns down and by which number, as document 01 has it under "What each call turns down".
+-- Definitions alone: proofs/Returned.antt has their laws. Assumes nothing.
+use mathlib.Core.Bool.{Bool, cond, _||_}
+use mathlib.Core.List.{List, [], _∷_}
+use Prim.Native.Nat.{ℕ}
+use lib.Dec.{ltb}
+
+-- one test of a call: its number, and the limits from low to high within which the value is let pass
+pub record Limit : Type 0 where
+  pub number : ℕ
+  pub low : ℕ
+  pub value : ℕ
+  pub high : ℕ
+
+-- "outside the limits"
+abbrev pub outside : ℕ → ℕ → ℕ → Bool
+outside n low high = ltb n low || ltb high n
+
+-- "Tests run in the order listed": the number of the first whose value is outside its limits; 0 for success
+abbrev pub refusal : List Limit → ℕ
+refusal [] = 0
+refusal (l ∷ ls) = cond (outside (l .value) (l .low) (l .high)) (l .number) (refusal ls)

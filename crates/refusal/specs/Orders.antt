@@ -1,0 +1,29 @@
+-- The orders of the filter and the delays that each takes, as document 01 has them under "Coefficients", and their tests.
+-- Definitions alone. Assumes nothing.
+use Prim.Native.Nat.{ℕ, _+_, _*_, _-_, _≤_}
+use Rattle.refusal.specs.Limits.{Limit}
+
+-- "The order N is 1 or 2"
+abbrev pub orders : ℕ
+orders = 2
+
+-- "Order 1 takes d from 2,049 to 6,144, order 2 from 6,145 to 10,240"
+abbrev pub lowest : ℕ → ℕ
+lowest N = 4096 * N - 2047
+
+abbrev pub highest : ℕ → ℕ
+highest N = 4096 * N + 2048
+
+-- N is an order, and d is a delay that it takes
+pub record Takes (N d : ℕ) : Type 0 where
+  pub least : 1 ≤ N
+  pub most : N ≤ orders
+  pub low : lowest N ≤ d
+  pub high : d ≤ highest N
+
+-- "1 order", "3 d" outside the limits
+abbrev pub order : ℕ → Limit
+order N = record { number = 1; low = 1; value = N; high = orders }
+
+abbrev pub delay : ℕ → ℕ → Limit
+delay N d = record { number = 3; low = lowest N; value = d; high = highest N }

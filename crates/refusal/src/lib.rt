@@ -1,0 +1,28 @@
+// The numbers by which document 01's calls refuse, and the test that a number is outside its limits.
+// What a call returns is the first number, in the order listed, whose test is met (specs/Limits.antt).
+ghost use mathlib.Core.Path.{_≡_};
+ghost use Rattle.refusal.specs.Limits.{outside as Outside};
+
+pub const ORDER: u32 = 1;
+pub const LENGTH: u32 = 2;
+pub const DELAY: u32 = 3;
+pub const LOSS: u32 = 4;
+pub const ADVANCE: u32 = 5;
+pub const CHANGE_WAITS: u32 = 6;
+pub const AMPLITUDE: u32 = 7;
+pub const COUNT: u32 = 8;
+pub const BLOCK_LENGTHS: u32 = 9;
+pub const SAMPLE: u32 = 10;
+pub const RATE: u32 = 11;
+pub const NOTE: u32 = 12;
+pub const NOTE_LENGTH: u32 = 13;
+pub const CUT_SHORT: u32 = 14;
+pub const BIT_MAP: u32 = 15;
+pub const OUTPUT_FULL: u32 = 16;
+
+// n is below low or above high.
+pub fn outside(n: u32, low: u32, high: u32) -> bool
+    ensures { λ r. ⌜ r ≡ Outside n low high ⌝ }
+{
+    n < low || high < n
+}

@@ -1,0 +1,4 @@
+pub mod Formula
+pub mod Coefficients
+pub mod Theorems
+pub mod Answers

@@ -1,0 +1,47 @@
+// Thiran's coefficients in units of 1/65,536: the routine that a caller asks, with its refusals.
+// Contracts cite specs/Answers.antt; the filter's own set is made by the module `formula`.
+ghost use mathlib.Core.Path.{_≡_};
+ghost use Rattle.refusal.specs.Limits.{refusal};
+ghost use Rattle.thiran.specs.Answers.{limits, answer};
+
+pub mod formula;
+
+// What `coefficients` returns: refusal is 0 for success.
+pub struct Answer {
+    pub refusal: u32,
+    pub a1: i32,
+    pub a2: i32,
+}
+
+// What an order and a delay are refused by: 1, 3, else 0.
+pub fn refused(order: u32, d: u32) -> u32
+    ensures { λ r. ⌜ r ≡ refusal (limits order d) ⌝ }
+{
+    if refusal::outside(order, 1, 2) {
+        return refusal::ORDER;
+    }
+    if refusal::outside(d, 4_096 * order - 2_047, 4_096 * order + 2_048) {
+        return refusal::DELAY;
+    }
+    0
+}
+
+// A1 and A2 of an order and a delay; both 0 where they are refused.
+pub fn coefficients(order: u32, d: u32) -> Answer
+    ensures { λ r. ⌜ r ≡ answer order d ⌝ }
+{
+    let code = refused(order, d);
+    if code != 0 {
+        return Answer {
+            refusal: code,
+            a1: 0,
+            a2: 0,
+        };
+    }
+    let c = formula::set(order, d);
+    Answer {
+        refusal: 0,
+        a1: c.a1 as i32,
+        a2: c.a2 as i32,
+    }
+}
