@@ -27,7 +27,9 @@ pub fn round_q16(u: Value) -> Value
     requires { ⌜ natAbs (u .n) ≤ 2 ^ 39 ⌝ }
     ensures { λ r. ⌜ r .n ≡ R (u .n) ⌝ }
 {
-    Value { n: (u.n + 1_099_511_660_544) / 65_536 - 16_777_216 }
+    Value {
+        n: (u.n + 1_099_511_660_544) / 65_536 - 16_777_216,
+    }
 }
 
 // u / 131,072 downward, moved above zero by 2^24 times 131,072.
@@ -35,7 +37,9 @@ pub fn floor_q17(u: Value) -> Value
     requires { ⌜ natAbs (u .n) ≤ 2 ^ 41 ⌝ }
     ensures { λ r. ⌜ r .n ≡ floor (u .n) 131072 ⌝ }
 {
-    Value { n: (u.n + 2_199_023_255_552) / 131_072 - 16_777_216 }
+    Value {
+        n: (u.n + 2_199_023_255_552) / 131_072 - 16_777_216,
+    }
 }
 
 // u / m downward, by the sign of u.
@@ -45,7 +49,9 @@ pub fn floor_div(u: Value, m: u64) -> Value
 {
     let k = m as i64;
     if u.n < 0 {
-        return Value { n: (u.n - (k - 1)) / k };
+        return Value {
+            n: (u.n - (k - 1)) / k,
+        };
     }
     Value { n: u.n / k }
 }

@@ -1,4 +1,4 @@
--- The noise of a pluck, as document 01 has it under "Noise and plucks": a generator on 32-bit numbers, and its draw.
+-- The noise of a pluck, as document 01 has it under "Noise and plucks": a 32-bit generator, and its draw.
 -- Definitions alone. Assumes nothing.
 use Prim.Native.Nat.{ℕ, _+_, _*_, _/_, _%_, _^_}
 use lib.IntN.{ℤ, pos, _-ℤ_}

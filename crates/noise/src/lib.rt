@@ -1,7 +1,7 @@
 // The noise generator of a pluck: a draw by value, which returns the number drawn and the state left.
 // Contracts cite specs/Noise.antt.
 ghost use mathlib.Core.Path.{_≡_};
-ghost use Rattle.noise.specs.Noise.{next as Next, value as Drawing, drawn};
+ghost use Rattle.noise.specs.Noise.{next as Next, drawn};
 use integer::wrapping_mul_u32;
 use std::num::wrapping_add_u32;
 

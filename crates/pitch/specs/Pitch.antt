@@ -1,10 +1,10 @@
 -- From a note to a length and a delay, as document 01 has it under "Notes and effective length".
--- Definitions alone. Assumes nothing.
+-- Definitions alone: specs/Theorems.antt states what holds of them. Assumes nothing.
 use mathlib.Core.Bool.{cond}
 use mathlib.Core.List.{List, [], _∷_}
-use Prim.Native.Nat.{ℕ, _+_, _*_, _-_, _/_, _%_, _^_}
+use Prim.Native.Nat.{ℕ, _+_, _*_, _%_, _^_}
 use lib.Dec.{eqb}
-use lib.IntN.{ℤ, pos, natAbs, _-ℤ_, _*ℤ_}
+use lib.IntN.{ℤ, pos, _-ℤ_, _*ℤ_}
 use lib.ListN.{getD}
 use Rattle.integer.specs.Rounding.{floor, nearest}
 use Rattle.integer.specs.Parts.{up, dn}
@@ -36,18 +36,29 @@ splitL N T = floor ((T -ℤ pos 2048) -ℤ pos (lowest N)) 4096
 unfoldable pub splitD : ℕ → ℤ → ℤ
 splitD N T = (T -ℤ pos 2048) -ℤ pos 4096 *ℤ splitL N T
 
--- "Note: 1, 11 rate outside 8,000 to 192,000, 12 note above 127, 13 L outside 1 to 2,048"; an L below zero counts as 0
-abbrev pub limits : ℕ → ℕ → ℕ → List Limit
-limits N fs m =
-    order N
-    ∷ record { number = 11; low = 8000; value = fs; high = 192000 }
-    ∷ record { number = 12; low = 0; value = m; high = 127 }
-    ∷ record { number = 13; low = 1; value = up (splitL N (period fs m)); high = 2048 }
-    ∷ []
+-- "11 rate outside 8,000 to 192,000"
+abbrev pub rate : ℕ → Limit
+rate fs = record { number = 11; low = 8000; value = fs; high = 192000 }
 
--- "L and d come back 0"
+-- "12 note above 127"
+abbrev pub note : ℕ → Limit
+note m = record { number = 12; low = 0; value = m; high = 127 }
+
+-- "13 L outside 1 to 2,048": an L below zero counts as 0
+abbrev pub noteLength : ℤ → Limit
+noteLength L = record { number = 13; low = 1; value = up L; high = 2048 }
+
+-- "Note: 1, 11 .., 12 .., 13 .."
+abbrev pub limits : ℕ → ℕ → ℕ → List Limit
+limits N fs m = order N ∷ rate fs ∷ note m ∷ noteLength (splitL N (period fs m)) ∷ []
+
+-- what comes back with a number, where T is the period: L and d with 0, for success, else "L and d come back 0"
+abbrev pub answer : ℕ → ℤ → ℕ → Pitch
+answer N T number =
+    cond (eqb number 0)
+    (record { refusal = 0; length = up (splitL N T); delay = up (splitD N T) })
+    (record { refusal = number; length = 0; delay = 0 })
+
+-- what `note` returns
 unfoldable pub pitch : ℕ → ℕ → ℕ → Pitch
-pitch N fs m =
-    cond (eqb (refusal (limits N fs m)) 0)
-    (record { refusal = 0; length = up (splitL N (period fs m)); delay = up (splitD N (period fs m)) })
-    (record { refusal = refusal (limits N fs m); length = 0; delay = 0 })
+pitch N fs m = answer N (period fs m) (refusal (limits N fs m))

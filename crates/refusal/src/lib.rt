@@ -4,20 +4,35 @@ ghost use mathlib.Core.Path.{_≡_};
 ghost use Rattle.refusal.specs.Limits.{outside as Outside};
 
 pub const ORDER: u32 = 1;
+
 pub const LENGTH: u32 = 2;
+
 pub const DELAY: u32 = 3;
+
 pub const LOSS: u32 = 4;
+
 pub const ADVANCE: u32 = 5;
+
 pub const CHANGE_WAITS: u32 = 6;
+
 pub const AMPLITUDE: u32 = 7;
+
 pub const COUNT: u32 = 8;
+
 pub const BLOCK_LENGTHS: u32 = 9;
+
 pub const SAMPLE: u32 = 10;
+
 pub const RATE: u32 = 11;
+
 pub const NOTE: u32 = 12;
+
 pub const NOTE_LENGTH: u32 = 13;
+
 pub const CUT_SHORT: u32 = 14;
+
 pub const BIT_MAP: u32 = 15;
+
 pub const OUTPUT_FULL: u32 = 16;
 
 // n is below low or above high.

@@ -29,12 +29,14 @@ pub record Fraction : Type 0 where
   pub top : ℤ
   pub bottom : ℤ
 
--- (3); both products run over n from 0 to N
+-- (3); n runs from 0 to N in both products
 unfoldable pub a : ℕ → ℕ → ℕ → Fraction
-a N d k = record {
-  top = sign k (pos (choose N k)) *ℤ product (λ n. factor N d n) (suc N);
-  bottom = product (λ n. factor N d (k + n)) (suc N);
-}
+a N d k =
+    let count = suc N in
+    record {
+      top = sign k (pos (choose N k)) *ℤ product (λ n. factor N d n) count;
+      bottom = product (λ n. factor N d (k + n)) count;
+    }
 
 -- two fractions are equal, multiplied crosswise; said only of such as have bottoms above 0
 pub record Same (x y : Fraction) : Type 0 where

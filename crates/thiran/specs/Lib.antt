@@ -1,4 +1,5 @@
 pub mod Formula
 pub mod Coefficients
 pub mod Theorems
+pub mod Steps
 pub mod Answers

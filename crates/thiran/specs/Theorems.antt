@@ -1,11 +1,10 @@
 -- What document 01 says of the coefficients, for each order N and delay d that N takes. proofs/Theorems.antt proves it.
 -- Statements alone. Assumes nothing.
-use mathlib.Core.Path.{_≡_}
-use Prim.Native.Nat.{ℕ, _+_, _*_, _≤_}
+use Prim.Native.Nat.{ℕ, _≤_}
 use lib.IntN.{ℤ, pos, natAbs, _+ℤ_, _-ℤ_, _*ℤ_}
 use lib.Signed.{_<ℤ_}
 use Rattle.integer.specs.Rounding.{Nearest}
-use Rattle.thiran.specs.Formula.{Fraction, a, Same, over}
+use Rattle.thiran.specs.Formula.{a, Same, over}
 use Rattle.thiran.specs.Coefficients.{coefficient, coefficients, norm}
 
 -- "Each filter coefficient is the whole number nearest to 65,536 times the fraction in Thiran's formula" (the sheet, 2);

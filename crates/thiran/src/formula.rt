@@ -1,54 +1,49 @@
-// The coefficients of one filter, by Thiran's formula with the factors that cancel left out.
-// For each index the same form serves every order: (N over k) is 0 past the order, and so is the coefficient.
+// The coefficients of one filter, by Thiran's formula, each fraction from the one before.
+// Past the order N a fraction is 0 by its factor N − k, and so is the coefficient.
 ghost use mathlib.Core.Path.{_≡_};
-ghost use Prim.Native.Nat.{_+_, _*_, _≤_, _^_};
-ghost use lib.IntN.{pos, natAbs, _-ℤ_, _*ℤ_};
-ghost use Rattle.refusal.specs.Orders.{Takes};
-ghost use Rattle.thiran.specs.Coefficients.{coefficient, coefficients};
+ghost use Prim.Native.Nat.{_+_, _<_};
+ghost use lib.IntN.{pos, _*ℤ_};
+ghost use Rattle.integer.specs.Rounding.{nearest as Nearest};
+ghost use Rattle.refusal.specs.Orders.{Takes, orders};
+ghost use Rattle.thiran.specs.Coefficients.{coefficients};
+ghost use Rattle.thiran.specs.Steps.{part, Roundable};
 ghost use Rattle.thiran.specs.Answers.{padded};
-use integer::{Value, nearest};
+use integer::Value;
+use integer::nearest;
 
 pub struct Coefficients {
     pub a1: i64,
     pub a2: i64,
 }
 
-// N − D − i, times 4,096.
-fn factor(order: u32, d: u32, i: u32) -> Value
-    requires { ⌜ (order ≤ 16) × (d ≤ 2 ^ 16) × (i ≤ 16) ⌝ }
-    ensures { λ r. ⌜ r .n ≡ pos (4096 * order) -ℤ pos (d + 4096 * i) ⌝ }
+// A fraction.
+struct Part {
+    pub top: i64,
+    pub bottom: u64,
+}
+
+// The fraction of index k + 1 from that of index k: times (N − k) (N − D − k) / ((k + 1) (D + k + 1)),
+// with 4,096 above and below, since d is 4,096 D.
+fn next(p: Part, order: u32, d: u32, k: u32) -> Part
+    requires { ⌜ (Takes order d) × (k < orders) × (p ≡ part order d k) ⌝ }
+    ensures { λ r. ⌜ r ≡ part order d (k + 1) ⌝ }
 {
-    let n = 4_096 * order;
-    let x = d + 4_096 * i;
-    Value {
-        n: n as i64 - x as i64,
+    let n = order as i64 - k as i64;
+    let x = (4_096 * order) as i64 - (d + 4_096 * k) as i64;
+    let j = k + 1;
+    let q = j * (d + 4_096 * j);
+    Part {
+        top: p.top * (n * x),
+        bottom: p.bottom * (q as u64),
     }
 }
 
-fn times(x: Value, y: Value) -> Value
-    requires { ⌜ natAbs (x .n) * natAbs (y .n) ≤ 2 ^ 60 ⌝ }
-    ensures { λ r. ⌜ r .n ≡ x .n *ℤ y .n ⌝ }
+// 65,536 times a fraction, to the nearest whole number, a half upward.
+fn rounded(p: Part) -> Value
+    requires { ⌜ Roundable p ⌝ }
+    ensures { λ r. ⌜ r .n ≡ Nearest (pos 65536 *ℤ p .top) (p .bottom) ⌝ }
 {
-    Value { n: x.n * y.n }
-}
-
-// A1: N (N − D) / (D + 1).
-fn first(order: u32, d: u32) -> Value
-    requires { ⌜ Takes order d ⌝ }
-    ensures { λ r. ⌜ r .n ≡ coefficient order d 1 ⌝ }
-{
-    let n = 65_536 * order;
-    nearest(times(Value { n: n as i64 }, factor(order, d, 0)), (d + 4_096) as u64)
-}
-
-// A2: N (N − 1) / 2 times (N − D) (N − D − 1) / ((D + 1) (D + 2)); 0 in order 1.
-fn second(order: u32, d: u32) -> Value
-    requires { ⌜ Takes order d ⌝ }
-    ensures { λ r. ⌜ r .n ≡ coefficient order d 2 ⌝ }
-{
-    let n = 65_536 * (order * (order - 1) / 2);
-    let top = times(times(Value { n: n as i64 }, factor(order, d, 0)), factor(order, d, 1));
-    nearest(top, ((d + 4_096) as u64) * ((d + 8_192) as u64))
+    nearest(Value { n: 65_536 * p.top }, p.bottom)
 }
 
 // A1 .. AN, and 0 past the order.
@@ -56,10 +51,9 @@ pub fn set(order: u32, d: u32) -> Coefficients
     requires { ⌜ Takes order d ⌝ }
     ensures { λ r. ⌜ r ≡ padded (coefficients order d) ⌝ }
 {
-    let a1 = first(order, d);
-    let a2 = second(order, d);
-    Coefficients {
-        a1: a1.n,
-        a2: a2.n,
-    }
+    let p1 = next(Part { top: 1, bottom: 1 }, order, d, 0);
+    let p2 = next(p1, order, d, 1);
+    let a1 = rounded(p1);
+    let a2 = rounded(p2);
+    Coefficients { a1: a1.n, a2: a2.n }
 }

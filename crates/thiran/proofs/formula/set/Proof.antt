@@ -1,0 +1,70 @@
+-- `thiran::formula::set` meets its contract: each coefficient is the fraction of its index, rounded.
+-- Assumes nothing.
+use mathlib.Core.Path.{_≡_, sym, subst}
+use Prim.Native.Nat.{ℕ, suc, _≤_}
+use native.Mathlib.Omega.{arith}
+use borrow.Author.Needs.{needs}
+use lib.Dec.{lit≤}
+use lib.IntN.{ℤ, pos, _*ℤ_}
+use lib.ListN.{getD}
+use mir.Syntax.{w64}
+use mir.Val.{toZ, ofZ}
+use mir.Facts.{toZ-ofZ}
+use Rattle.integer.specs.Rounding.{nearest}
+use Rattle.integer.proofs.View.{abs-fits}
+use Rattle.refusal.specs.Orders.{orders}
+use Rattle.thiran.specs.declared.formula.Part.{Part}
+use Rattle.thiran.specs.Coefficients.{coefficients}
+use Rattle.thiran.specs.Steps.{part, Roundable}
+use Rattle.thiran.specs.Answers.{padded}
+use Rattle.thiran.proofs.Steps.{coefficient-part, roundable}
+use Rattle.thiran.proofs.Lists.{coefficient-at, coefficient-small}
+use Rattle.thiran.proofs.formula.set.Statement.{statement}
+use Rattle.thiran.proofs.formula.set.Tie as tie
+
+module _ (c : tie.Start) where
+  abbrev N : ℕ
+  N = c .args .order
+
+  abbrev d : ℕ
+  d = c .args .d
+
+  fraction-roundable : (k : ℕ) {p : Part} → k ≤ orders → p ≡ part N d k → Roundable p
+  fraction-roundable k h e = subst Roundable (sym e) (roundable N d (c .pre) k h)
+
+  -- the fraction of index k + 1, rounded, is the coefficient at place k
+  rounded-at : (k : ℕ) {p : Part} {z : ℤ}
+      → p ≡ part N d (suc k)
+      → z ≡ nearest (pos 65536 *ℤ p .top) (p .bottom)
+      → toZ w64 (ofZ w64 z) ≡ getD (coefficients N d) k (pos 0)
+  rounded-at k e i =
+      let A = getD (coefficients N d) k (pos 0) in
+      let f = abs-fits w64 A (omega (arith, coefficient-small N d k (c .pre))) in
+      let j = coefficient-part N d (suc k) (c .pre .low) (omega arith) in
+      rw (i, e, ← j, ← coefficient-at N d k (c .pre .low)) (toZ-ofZ f)
+
+next-requires : tie.Need-next-requires
+next-requires c κs = search needs
+
+next-requires-2 : tie.Need-next-requires-2
+next-requires-2 c κs = search needs
+
+rounded-requires : tie.Need-rounded-requires
+rounded-requires c κs = fraction-roundable (c .before .before) 1 (lit≤ tt) (c .before .next .ensures)
+
+rounded-requires-2 : tie.Need-rounded-requires-2
+rounded-requires-2 c κs =
+    fraction-roundable (c .before .before .before) 2 (lit≤ tt) (c .before .next2 .ensures)
+
+returns : tie.Need-returns
+unfolding padded
+returns c =
+    let b = c .before .before .before in
+    let s = b .before .before .before in
+    rw (
+      rounded-at s 0 (b .before .before .next .ensures) (b .rounded .ensures),
+      rounded-at s 1 (b .before .next2 .ensures) (c .before .before .rounded2 .ensures),
+    )
+
+pub set-spec : {M : Type 1} → statement M
+set-spec = tie.close (tie.spec next-requires next-requires-2 rounded-requires rounded-requires-2 returns)
