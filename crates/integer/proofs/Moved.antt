@@ -22,4 +22,13 @@ module _ (u : ℤ) (C m K : ℕ) (small : natAbs u + C < 2 ^ 62) (back : K ≤ 2
       let z = u +ℤ pos C in
       let q = quotZ z (pos m) in
       vfit w64 (q -ℤ pos K)
-      (omega (arith, absv u, +v u (pos C), -v q (pos K), quotv z m, div-le-self (up z) m, div-le-self (dn z) m, onev z))
+      (omega (
+        arith,
+        absv u,
+        +v u (pos C),
+        -v q (pos K),
+        onev z,
+        quotv z m,
+        div-le-self (up z) m,
+        div-le-self (dn z) m,
+      ))

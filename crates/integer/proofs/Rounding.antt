@@ -1,4 +1,4 @@
--- Laws of floor division, nearest numbers, R and clip (specs/Rounding.antt). `floor u m` is the q with m q ≤ u < m q + m.
+-- Laws of specs/Rounding.antt. `floor u m` is the q with m q ≤ u < m q + m.
 -- Assumes nothing.
 use mathlib.Core.Path.{_≡_, refl, sym, ap, _∙_}
 use mathlib.Core.Bool.{true, false}
@@ -59,7 +59,12 @@ floor-same u v m n h k e =
     let X = pos n *ℤ f in
     floor-only v f n k
     (belowv m X v h (omega (arith, low, times m (*v (pos n) f))))
-    (omega (Zs, belowv m (v +ℤ pos 1) (X +ℤ pos n) h (omega (arith, high, times m (*v (pos n) f), times m (+v X (pos n)), times m (+v v (pos 1)))), +v v (pos 1)))
+    (omega (
+      Zs,
+      belowv m (v +ℤ pos 1) (X +ℤ pos n) h
+          (omega (arith, high, times m (*v (pos n) f), times m (+v X (pos n)), times m (+v v (pos 1)))),
+      +v v (pos 1),
+    ))
 
 ≥0-ltZ : (z : ℤ) → dn z ≤ up z → ltZ z (pos 0) ≡ false
 ≥0-ltZ (pos a) h = le-ltb a 0 (omega arith)
@@ -77,12 +82,15 @@ pub floor-quot-below : (u : ℤ) (m : ℕ) → 0 < m → ltZ u (pos 0) ≡ true
 unfolding floor
 floor-quot-below (pos a) m h e = absurd (omega Zs)
 floor-quot-below (negsuc a) m h e =
-    let i : negsuc a -ℤ (pos m -ℤ pos 1) ≡ negsuc (a + (m - 1)) = omega (Zs, -v (negsuc a) (pos m -ℤ pos 1), -v (pos m) (pos 1)) in
+    let i : negsuc a -ℤ (pos m -ℤ pos 1) ≡ negsuc (a + (m - 1))
+    = omega (Zs, -v (negsuc a) (pos m -ℤ pos 1), -v (pos m) (pos 1)) in
     let j : suc (a + (m - 1)) ≡ a + m = omega arith in
-    ap (λ (z : ℤ). quotZ z (pos m)) i ∙ ap (λ (n : ℕ). negℤ (pos n)) (ap (λ (n : ℕ). n / m) j ∙ add-div-right a h ∙ add-one (a / m))
+    ap (λ (z : ℤ). quotZ z (pos m)) i
+    ∙ ap (λ (n : ℕ). negℤ (pos n)) (ap (λ (n : ℕ). n / m) j ∙ add-div-right a h ∙ add-one (a / m))
 
 -- moved above zero by K times m, divided, and moved back
-pub floor-moved : (u : ℤ) (m K : ℕ) → 0 < m → natAbs u ≤ m * K → quotZ (u +ℤ pos (m * K)) (pos m) -ℤ pos K ≡ floor u m
+pub floor-moved : (u : ℤ) (m K : ℕ) → 0 < m → natAbs u ≤ m * K
+    → quotZ (u +ℤ pos (m * K)) (pos m) -ℤ pos K ≡ floor u m
 floor-moved u m K h k =
     let z = u +ℤ pos (m * K) in
     let f = floor z m in
@@ -96,7 +104,9 @@ floor-moved u m K h k =
 -- ---- nearest
 pub nearest-is : (p : ℤ) (q : ℕ) → 0 < q → Nearest p q (nearest p q)
 unfolding nearest
-nearest-is p q h = record { low = floor-low (pos 2 *ℤ p +ℤ pos q) (2 * q) (omega arith); high = floor-high (pos 2 *ℤ p +ℤ pos q) (2 * q) (omega arith) }
+nearest-is p q h =
+    let u = pos 2 *ℤ p +ℤ pos q in
+    record { low = floor-low u (2 * q) (omega arith); high = floor-high u (2 * q) (omega arith) }
 
 pub nearest-only : (p : ℤ) (q : ℕ) (A : ℤ) → 0 < q → Nearest p q A → A ≡ nearest p q
 unfolding nearest
@@ -109,8 +119,12 @@ nearest-same p s q r h k e =
     let u = pos 2 *ℤ p +ℤ pos q in
     let v = pos 2 *ℤ s +ℤ pos r in
     let pr : up p * r + dn s * q ≡ up s * q + dn p * r = omega (Zs, *v p (pos r), *v s (pos q)) in
-    let uv : up u * r + dn v * q ≡ up v * q + dn u * r = omega (arith, times r (+v (pos 2 *ℤ p) (pos q)), times r (*v (pos 2) p), times q (+v (pos 2 *ℤ s) (pos r)), times q (*v (pos 2) s)) in
-    floor-same u v (2 * q) (2 * r) (omega arith) (omega arith) (omega (Zs, *v u (pos (2 * r)), *v v (pos (2 * q))))
+    let ur = times r (+v (pos 2 *ℤ p) (pos q)) in
+    let vq = times q (+v (pos 2 *ℤ s) (pos r)) in
+    let uv : up u * r + dn v * q ≡ up v * q + dn u * r
+    = omega (arith, ur, vq, times r (*v (pos 2) p), times q (*v (pos 2) s)) in
+    floor-same u v (2 * q) (2 * r) (omega arith) (omega arith)
+    (omega (Zs, *v u (pos (2 * r)), *v v (pos (2 * q))))
 
 -- ---- R
 pub Rv : (u : ℤ)

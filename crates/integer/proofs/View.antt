@@ -1,5 +1,5 @@
--- Integers as differences of naturals, for `omega`, which reads ℕ alone: z is `up z` less `dn z`, one of which is 0.
--- `+v a b`, `-v a b`, `*v a b` say what the two parts of a sum, a difference, a product are. `Zs` is the set of rules by which `omega` reads and proves orders and equations of ℤ.
+-- Integers as differences of naturals, for `omega`, which reads ℕ alone: z is `up z` less `dn z`.
+-- `+v a b`, `-v a b`, `*v a b` tell the parts of an operation's result; by `Zs` omega reads and proves facts of ℤ.
 -- Assumes nothing.
 use mathlib.Core.Path.{_≡_, refl, sym, ap, subst, _∙_}
 use mathlib.Core.Bool.{Bool, true, false, not, cond}
@@ -16,7 +16,8 @@ use mir.Facts.{toZ-ofZ}
 use Rattle.integer.specs.Parts.{up, dn}
 
 -- ---- the operations
-subv′ : (t : Bool) (a b : ℕ) → ltb a b ≡ t → up (cond t (negsuc (b - suc a)) (pos (a - b))) + b ≡ dn (cond t (negsuc (b - suc a)) (pos (a - b))) + a
+subv′ : (t : Bool) (a b : ℕ) → ltb a b ≡ t
+    → up (cond t (negsuc (b - suc a)) (pos (a - b))) + b ≡ dn (cond t (negsuc (b - suc a)) (pos (a - b))) + a
 subv′ true a b e = omega (arith, ltb-true)
 subv′ false a b e = omega (arith, ltb-false)
 
@@ -114,7 +115,7 @@ fits-abs {w} {z} f = natAbs-le z (f .sfits)
 pub abs-fits : (w : Width) (z : ℤ) → natAbs z < 2 ^ hbits w → SFits w z
 abs-fits w z h = vfit w z (omega (arith, absv z))
 
--- what the machine reads back of a call's result z, whose range `c .CALLEE .ok` tells bare, where the call ensures that z is t
+-- what the machine reads back of a number z in its range, where z is t
 pub read : (w : Width) (z : ℤ) {t : ℤ} → mag z < 2 ^ hbits w → z ≡ t → toZ w (ofZ w z) ≡ t
 read w z h e = toZ-ofZ (record { sfits = h }) ∙ e
 
@@ -140,7 +141,8 @@ quotv (pos a) m = (refl, sym (zero-div m))
 quotv (negsuc a) m = (negv (pos (suc a / m)) .0 ∙ sym (zero-div m), negv (pos (suc a / m)) .1)
 
 pub quot-fits : {w : Width} {z : ℤ} (m : ℕ) → SFits w z → SFits w (quotZ z (pos m))
-quot-fits {w} {z} m f = vfit w (quotZ z (pos m)) (omega (arith, fitv f, quotv z m, div-le-self (up z) m, div-le-self (dn z) m))
+quot-fits {w} {z} m f =
+    vfit w (quotZ z (pos m)) (omega (arith, fitv f, quotv z m, div-le-self (up z) m, div-le-self (dn z) m))
 
 pub shr-fits : {w : Width} {z : ℤ} (m : ℕ) → SFits w z → SFits w (shrZ z m)
 shr-fits {w} {z} m f = record { sfits = lt-of-le-of-lt (mag-shr z m) (f .sfits) }

@@ -1,4 +1,4 @@
--- The two parts of a whole number: what it is above zero, and what it is below. z is `up z` less `dn z`, one of which is 0.
+-- The two parts of a whole number: z is `up z` less `dn z`, one of which is 0.
 -- Definitions alone: proofs/View.antt has their laws. Assumes nothing.
 use Prim.Native.Nat.{ℕ, suc}
 use lib.IntN.{ℤ, pos, negsuc}

@@ -1,4 +1,4 @@
-// Signed whole numbers: clipping, floor division and rounding built on truncating division, and the wrapping product.
+// Signed whole numbers: clipping, floor division and rounding built on truncating division, wrapping product.
 // A signed number goes between functions in a struct, so that a contract reads the number and not its bits.
 ghost use mathlib.Core.Path.{_≡_};
 ghost use Prim.Native.Nat.{_+_, _*_, _%_, _^_, _≤_, _<_};
@@ -70,4 +70,15 @@ pub fn wrapping_mul_u32(a: u32, b: u32) -> u32
     ensures { λ r. ⌜ r ≡ (a * b) % 2 ^ 32 ⌝ }
 {
     ((a as u64) * (b as u64) % 4_294_967_296) as u32
+}
+
+// The magnitude of x.
+pub fn magnitude(x: i32) -> u64
+    ensures { λ r. ⌜ r ≡ natAbs x ⌝ }
+{
+    let n = x as i64;
+    if n < 0 {
+        return (0 - n) as u64;
+    }
+    n as u64
 }

@@ -16,7 +16,10 @@ pub record Limit : Type 0 where
 abbrev pub outside : ℕ → ℕ → ℕ → Bool
 outside n low high = ltb n low || ltb high n
 
+abbrev pub met : Limit → Bool
+met l = outside (l .value) (l .low) (l .high)
+
 -- "Tests run in the order listed": the number of the first whose value is outside its limits; 0 for success
 abbrev pub refusal : List Limit → ℕ
 refusal [] = 0
-refusal (l ∷ ls) = cond (outside (l .value) (l .low) (l .high)) (l .number) (refusal ls)
+refusal (l ∷ ls) = cond (met l) (l .number) (refusal ls)

@@ -1,4 +1,4 @@
--- The orders of the filter and the delays that each takes, as document 01 has them under "Coefficients", and their tests.
+-- The orders of the filter and the delays that each takes, as document 01 has them, and their tests.
 -- Definitions alone. Assumes nothing.
 use Prim.Native.Nat.{ℕ, _+_, _*_, _-_, _≤_}
 use Rattle.refusal.specs.Limits.{Limit}

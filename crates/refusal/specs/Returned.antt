@@ -1,5 +1,5 @@
--- Demand 1 of a call with the tests ls: each number is returned if its condition holds and no earlier one does, and only then.
--- A call's own tests are such a list; proofs/Returned.antt shows both of every list of different numbers above 0. Assumes nothing.
+-- Demand 1 of a call with the tests ls: each number is returned if its condition holds and no earlier one does, and
+-- only then. proofs/Returned.antt shows it of every list of different numbers above 0. Assumes nothing.
 use mathlib.Core.Path.{_≡_}
 use mathlib.Core.Bool.{Bool, true, false, not, _&&_}
 use mathlib.Core.Logic.{_↔_}
@@ -20,7 +20,8 @@ pub data AllKept : List Limit → Type 0 where
 
 -- the number of any test l of the list, and success
 pub record Returned (ls : List Limit) : Type 0 where
-  pub refused : (pre post : List Limit) (l : Limit) → ls ≡ pre ++ l ∷ post → (refusal ls ≡ l .number) ↔ (AllKept pre × (Kept l → ⊥))
+  pub refused : (pre post : List Limit) (l : Limit) → ls ≡ pre ++ l ∷ post
+      → (refusal ls ≡ l .number) ↔ (AllKept pre × (Kept l → ⊥))
   pub accepted : (refusal ls ≡ 0) ↔ AllKept ls
 
 -- the numbers of a list are above 0 and differ from each other: a test that is computed

@@ -4,11 +4,11 @@ use mathlib.Core.Path.{_≡_, ap}
 use Prim.Native.Nat.{ℕ, _+_, _*_, _-_, _≤_}
 use native.Mathlib.Omega.{arith}
 use lib.Dec.{lit≤}
-use lib.IntN.{ℤ, pos, negℤ, natAbs, _-ℤ_, _*ℤ_, negℤ-negℤ, *ℤ-comm}
+use lib.IntN.{ℤ, pos, negℤ, natAbs, _-ℤ_, _*ℤ_, negℤ-negℤ, zero-*ℤ, *ℤ-comm}
 use Rattle.integer.proofs.View.{*v, -v, negv, Zs}
 use Rattle.integer.proofs.Rounding.{nearest-is}
 use Rattle.refusal.specs.Orders.{Takes}
-use Rattle.thiran.specs.Formula.{choose, product, a, Same, over}
+use Rattle.thiran.specs.Formula.{choose, product, factor, a, Same, over}
 use Rattle.thiran.specs.Coefficients.{coefficient}
 use Rattle.thiran.specs.Theorems.{Rounded, Order1, Order2}
 use Rattle.thiran.proofs.Products.{neg-*, *-neg}
@@ -45,7 +45,11 @@ opposite x y z =
     cc (neg-* u (negℤ w), *-neg u w, negℤ-negℤ (u *ℤ w), *ℤ-comm u w)
 
 pub order-1 : (d : ℕ) → Order1 d
-order-1 d = record { a1 = at 1 d 1 (simp one-* (lowered 1 d 0 (lit≤ tt))) (ap pos (omega arith)) }
+unfolding a
+order-1 d = record {
+  a1 = at 1 d 1 (simp one-* (lowered 1 d 0 (lit≤ tt))) (ap pos (omega arith));
+  a2 = zero-*ℤ (product (factor 1 d) 2);
+}
 
 pub order-2 : (d : ℕ) → Order2 d
 order-2 d =

@@ -1,4 +1,4 @@
--- What the routine `coefficients` turns down and gives, and how a list of coefficients stands in the struct of the code.
+-- What the routine `coefficients` turns down and gives, and how coefficients stand in the struct of the code.
 -- Definitions alone. Assumes nothing.
 use mathlib.Core.Bool.{cond}
 use mathlib.Core.List.{List, [], _∷_}

@@ -1,4 +1,4 @@
--- Thiran's formula, source document 002, equation (3), for any order N and index k, as a fraction in d = 4,096 D:
+-- Thiran's formula, 002 equation (3), for any order N and index k, as a fraction in d = 4,096 D:
 --     a_k = (−1)^k (N over k) ∏_{n=0}^{N} (D − N + n) / (D − N + k + n).
 -- Definitions alone. Assumes nothing.
 use mathlib.Core.Path.{_≡_}

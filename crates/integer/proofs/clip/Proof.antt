@@ -22,8 +22,9 @@ returns-2 c =
 returns-3 : tie.Need-returns-3
 returns-3 c =
     let u = c .before .before .before .before .before .before .args .u .n in
-    let l = rw (read w64 u (c .before .struct-told2 .given .0 .1) refl) at (c .before .before .before .if1 .left) in
-    let k = rw (read w64 u (c .before .struct-told2 .given .0 .1) refl) at (c .if2 .left) in
+    let e = read w64 u (c .before .struct-told2 .given .0 .1) refl in
+    let l = rw e at (c .before .before .before .if1 .left) in
+    let k = rw e at (c .if2 .left) in
     omega (Zs, clipv u, onev u)
 
 pub clip-spec : {M : Type 1} → statement M

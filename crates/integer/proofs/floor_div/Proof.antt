@@ -51,12 +51,14 @@ sub-t6 c = let s = start c in rw (u-read c, m-read s, toZ-ofZ (less-fits s)) (mo
 div-t7 : tie.Need-div-t7
 div-t7 c =
     let s = start c in
-    rw (u-read c, m-read s, toZ-ofZ (less-fits s), toZ-ofZ (moved-fits s)) (s .pre .0, quot-fits (m s) (moved-fits s))
+    rw (u-read c, m-read s, toZ-ofZ (less-fits s), toZ-ofZ (moved-fits s))
+    (s .pre .0, quot-fits (m s) (moved-fits s))
 
 returns : tie.Need-returns
 returns c =
     let s = start c in
-    rw (u-read c, m-read s, toZ-ofZ (less-fits s), toZ-ofZ (moved-fits s), toZ-ofZ (quot-fits (m s) (moved-fits s)))
+    let q = quot-fits (m s) (moved-fits s) in
+    rw (u-read c, m-read s, toZ-ofZ (less-fits s), toZ-ofZ (moved-fits s), toZ-ofZ q)
     (floor-quot-below (u s) (m s) (s .pre .0) (rw (u-read c) at (c .before .before .if1 .taken)))
 
 module _ (c : tie.After-struct-told3) where

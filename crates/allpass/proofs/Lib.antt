@@ -1,0 +1,6 @@
+pub mod Bounds
+pub mod Contraction
+pub mod Orders
+pub mod Stored
+mod Counting
+pub mod Taken

@@ -1,0 +1,14 @@
+-- The filter over lists is document 01's own at order 1 and at order 2.
+-- Assumes nothing.
+use mathlib.Core.Path.{refl}
+use lib.IntN.{ℤ, +ℤ-idr}
+use Rattle.allpass.specs.Allpass.{inner, next, out}
+use Rattle.allpass.specs.Bounds.{Order1, Order2}
+
+pub order-1 : (a1 v1 f : ℤ) → Order1 a1 v1 f
+unfolding inner next out
+order-1 a1 v1 f = record { w = simp +ℤ-idr; output = simp +ℤ-idr; state = refl }
+
+pub order-2 : (a1 a2 v1 v2 f : ℤ) → Order2 a1 a2 v1 v2 f
+unfolding inner next out
+order-2 a1 a2 v1 v2 f = record { w = simp +ℤ-idr; output = simp +ℤ-idr; state = refl }

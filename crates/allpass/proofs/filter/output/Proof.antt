@@ -1,0 +1,100 @@
+-- `allpass::filter::output` meets its contract: the turned coefficients are as small, and the sum is within 3M.
+-- Assumes nothing.
+use mathlib.Core.Path.{_≡_, ap, _∙_}
+use mathlib.Core.List.{List, [], reverse}
+use Prim.Native.Nat.{_≤_}
+use native.Mathlib.Omega.{arith}
+use borrow.Author.Needs.{needs}
+use lib.IntN.{ℤ, pos, _+ℤ_}
+use lib.ListN.{length, length-reverse}
+use mir.Syntax.{w64}
+use mir.Val.{SFits, toZ, ofZ}
+use mir.Facts.{toZ-ofZ}
+use Rattle.integer.specs.Rounding.{R}
+use Rattle.integer.proofs.View.{abs-fits, read}
+use Rattle.integer.proofs.Ring.{abs-+}
+use Rattle.refusal.specs.Orders.{orders}
+use Rattle.thiran.specs.Answers.{taps}
+use Rattle.thiran.specs.Coefficients.{norm}
+use Rattle.allpass.specs.Allpass.{dot, final}
+use Rattle.allpass.specs.Stored.{held}
+use Rattle.allpass.proofs.Bounds.{R-within, final-within, norm-reverse}
+use Rattle.allpass.proofs.Stored.{length-taps, norm-all, within-all, dot-all}
+use Rattle.allpass.proofs.filter.output.Statement.{statement}
+use Rattle.allpass.proofs.filter.output.Tie as tie
+
+module _ (s : tie.Start) where
+  abbrev A : List ℤ
+  A = taps (s .args .order) (s .args .c)
+
+  abbrev v : List ℤ
+  v = held (s .args .order) (s .args .s)
+
+  abbrev x : ℤ
+  x = final (pos 0) (held (s .args .order) (s .args .v))
+
+  few : length (reverse A) ≤ orders
+  few = omega (arith, length-reverse A, length-taps (s .args .order) (s .args .c) (s .pre .0 .most))
+
+  small : norm (reverse A) ≤ 32768
+  small = omega (arith, norm-reverse A [], s .pre .0 .taps-small)
+
+  y-fits : SFits w64 (x +ℤ R (dot (reverse A) v))
+  y-fits =
+      let r = R (dot (reverse A) v) in
+      let p = final-within (pos 0) (omega arith) (s .pre .1) in
+      let q = R-within (reverse A) small (s .pre .0 .state-within) in
+      abs-fits w64 (x +ℤ r) (omega (arith, abs-+ x r))
+
+turned-requires : tie.Need-turned-requires
+turned-requires c κs = search needs
+
+weighed-requires : tie.Need-weighed-requires
+weighed-requires c κs =
+    let s = c .before in
+    let n = norm-all (c .turned .result) (reverse (A s)) (c .turned .ensures) (few s) in
+    let k = small s in
+    (omega arith, within-all (s .args .s) (v s) (s .pre .0 .state-past) (s .pre .0 .state-within))
+
+oldest-requires : tie.Need-oldest-requires
+oldest-requires c κs = search needs
+
+weighed-is : (c : tie.After-weighed)
+    → c .weighed .result .n ≡ R (dot (reverse (A (c .before .before))) (v (c .before .before)))
+weighed-is c =
+    let t = c .before .turned in
+    let s = c .before .before in
+    let i = s .pre .0 .state-past in
+    c .weighed .ensures ∙ ap R (dot-all (t .result) (s .args .s) (reverse (A s)) (v s) (t .ensures) i (few s))
+
+module _ (c : tie.After-struct-told2) where
+  abbrev after : tie.After-oldest
+  after = c .before .before .before .before
+
+  abbrev start : tie.Start
+  start = after .before .before .before
+
+  x-read : toZ w64 (ofZ w64 (after .oldest .result .n)) ≡ x start
+  x-read =
+      let o = after .oldest in
+      read w64 (o .result .n) (c .before .before .struct-told .given .0 .1) (o .ensures)
+
+  r-read : toZ w64 (ofZ w64 (after .before .weighed .result .n)) ≡ R (dot (reverse (A start)) (v start))
+  r-read =
+      let w = after .before in
+      read w64 (w .weighed .result .n) (c .struct-told2 .given .0 .1) (weighed-is w)
+
+add-t8 : tie.Need-add-t8
+add-t8 c = rw (x-read c, r-read c) (y-fits (start c))
+
+clip-requires : tie.Need-clip-requires
+clip-requires c κs = search needs
+
+returns : tie.Need-returns
+returns c =
+    let b = c .before in
+    rw (x-read b, r-read b, toZ-ofZ (y-fits (start b))) at (c .clip .ensures)
+
+pub output-spec : {M : Type 1} → statement M
+output-spec =
+    tie.close (tie.spec turned-requires weighed-requires oldest-requires add-t8 clip-requires returns)

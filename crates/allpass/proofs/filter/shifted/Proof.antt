@@ -1,0 +1,30 @@
+-- `allpass::filter::shifted` meets its contract: v2 is 0 in order 1, and the old v1 in order 2.
+-- Assumes nothing.
+use mathlib.Core.Path.{_≡_, refl, ap}
+use mathlib.Core.List.{[], _∷_}
+use native.Mathlib.Omega.{arith}
+use lib.IntN.{ℤ}
+use mir.Syntax.{w64}
+use Rattle.integer.proofs.View.{read}
+use Rattle.allpass.specs.Stored.{stored}
+use Rattle.allpass.proofs.filter.shifted.Statement.{statement}
+use Rattle.allpass.proofs.filter.shifted.Tie as tie
+
+returns : tie.Need-returns
+unfolding stored
+returns c =
+    let s = c .before .before in
+    let e : s .args .order ≡ 1 = omega arith in
+    rw (e, read w64 (s .args .w .n) (c .struct-told .given .0 .1) refl)
+
+returns-2 : tie.Need-returns-2
+unfolding stored
+returns-2 c =
+    let s = c .before .before .before in
+    let e : s .args .order ≡ 2 = omega arith in
+    let q = read w64 (s .args .v .v1) (c .struct-told3 .given .0 .1) refl in
+    rw (e, read w64 (s .args .w .n) (c .before .struct-told2 .given .0 .1) refl)
+    (ap (λ (x : ℤ). stored (s .args .w .n ∷ x ∷ [])) q)
+
+pub shifted-spec : {M : Type 1} → statement M
+shifted-spec = tie.close (tie.spec returns returns-2)

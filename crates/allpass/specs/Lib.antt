@@ -1,0 +1,4 @@
+pub mod Allpass
+pub mod Bounds
+pub mod Stored
+pub mod Length

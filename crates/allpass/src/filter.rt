@@ -1,0 +1,106 @@
+// One sample of the filter and of the eliminator. What differs by order is in `oldest`, `turned`, `shifted`.
+// A struct of coefficients or of a state holds 0 past the order, so that one sum of products serves both.
+ghost use mathlib.Core.Path.{_≡_};
+ghost use mathlib.Core.List.{[], _∷_, reverse};
+ghost use Prim.Native.Nat.{_*_, _≤_};
+ghost use lib.IntN.{pos, _+ℤ_};
+ghost use Rattle.integer.specs.Rounding.{M, R, clip as Clip};
+ghost use Rattle.refusal.specs.Orders.{orders};
+ghost use Rattle.thiran.specs.Coefficients.{norm};
+ghost use Rattle.thiran.specs.Answers.{padded, taps};
+ghost use Rattle.allpass.specs.Allpass.{dot, final, shift, inner as Inner, next, out};
+ghost use Rattle.allpass.specs.Bounds.{Within};
+ghost use Rattle.allpass.specs.Stored.{stored, held, Fed};
+use crate::State;
+use integer::Value;
+use integer::clip;
+use integer::round_q16;
+use thiran::formula::Coefficients;
+
+// y is the output, and state the next state.
+pub struct Filtered {
+    pub y: Value,
+    pub state: State,
+}
+
+// vN.
+fn oldest(order: u32, v: State) -> Value
+    requires { ⌜ (1 ≤ order) × (order ≤ orders) ⌝ }
+    ensures { λ r. ⌜ r .n ≡ final (pos 0) (held order v) ⌝ }
+{
+    if order == 1 {
+        return Value { n: v.v1 };
+    }
+    Value { n: v.v2 }
+}
+
+// AN, .. , A1.
+fn turned(order: u32, c: Coefficients) -> Coefficients
+    requires { ⌜ (1 ≤ order) × (order ≤ orders) × (c ≡ padded (taps order c)) ⌝ }
+    ensures { λ r. ⌜ r ≡ padded (reverse (taps order c)) ⌝ }
+{
+    if order == 1 {
+        return c;
+    }
+    Coefficients { a1: c.a2, a2: c.a1 }
+}
+
+// w in front of v, and the last number dropped.
+fn shifted(order: u32, v: State, w: Value) -> State
+    requires { ⌜ (1 ≤ order) × (order ≤ orders) ⌝ }
+    ensures { λ r. ⌜ r ≡ stored (shift (w .n) (held order v)) ⌝ }
+{
+    if order < 2 {
+        return State { v1: w.n, v2: 0 };
+    }
+    State { v1: w.n, v2: v.v1 }
+}
+
+// A1·v1 + A2·v2, rounded.
+fn weighed(c: Coefficients, v: State) -> Value
+    requires { ⌜ (norm (c .a1 ∷ c .a2 ∷ []) ≤ 32768) × Within (2 * M) (v .v1 ∷ v .v2 ∷ []) ⌝ }
+    ensures { λ r. ⌜ r .n ≡ R (dot (c .a1 ∷ c .a2 ∷ []) (v .v1 ∷ v .v2 ∷ [])) ⌝ }
+{
+    round_q16(Value {
+        n: c.a1 * v.v1 + c.a2 * v.v2,
+    })
+}
+
+// w.
+fn inner(order: u32, c: Coefficients, v: State, f: Value) -> Value
+    requires { ⌜ Fed order c v (f .n) ⌝ }
+    ensures { λ r. ⌜ r .n ≡ Inner (taps order c) (held order v) (f .n) ⌝ }
+{
+    let r = weighed(c, v);
+    Value { n: f.n - r.n }
+}
+
+// One sample of the eliminator: the next state.
+pub fn eliminate(order: u32, c: Coefficients, v: State, f: Value) -> State
+    requires { ⌜ Fed order c v (f .n) ⌝ }
+    ensures { λ r. ⌜ r ≡ stored (next (taps order c) (held order v) (f .n)) ⌝ }
+{
+    let w = inner(order, c, v, f);
+    shifted(order, v, w)
+}
+
+// The output, where s is the next state.
+fn output(order: u32, c: Coefficients, v: State, s: State) -> Value
+    requires { ⌜ Fed order c s (pos 0) × Within (2 * M) (held order v) ⌝ }
+    ensures { λ r. ⌜ r .n ≡ Clip (final (pos 0) (held order v) +ℤ R (dot (reverse (taps order c)) (held order s))) ⌝ }
+{
+    let r = weighed(turned(order, c), s);
+    let x = oldest(order, v);
+    clip(Value { n: x.n + r.n })
+}
+
+// One sample of the filter: the output and the next state.
+pub fn allpass(order: u32, c: Coefficients, v: State, f: Value) -> Filtered
+    requires { ⌜ Fed order c v (f .n) ⌝ }
+    ensures { λ r. ⌜ (r .y .n ≡ out (taps order c) (held order v) (f .n))
+        × (r .state ≡ stored (next (taps order c) (held order v) (f .n))) ⌝ }
+{
+    let s = eliminate(order, c, v, f);
+    let y = output(order, c, v, s);
+    Filtered { y: y, state: s }
+}

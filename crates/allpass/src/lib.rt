@@ -1,0 +1,38 @@
+// The allpass filter of order 1 or 2, its eliminator, and the effective length of its response.
+// Contracts cite the filter of order N over lists (specs/Allpass.antt) by the structs' lists (specs/Stored.antt).
+pub mod filter;
+mod response;
+
+ghost use mathlib.Core.Path.{_≡_};
+ghost use Rattle.allpass.specs.Length.{effectiveLength};
+
+// v1 and v2; v2 is 0 in order 1.
+pub struct State {
+    pub v1: i64,
+    pub v2: i64,
+}
+
+// What `effective_length` returns: refusal is 0 for success.
+pub struct Counted {
+    pub refusal: u32,
+    pub count: u32,
+}
+
+// How many of the 64 values w exceed the threshold in magnitude, where 1,000,000 and then zeros are fed to
+// a resting eliminator; 0 where the order or the delay is refused.
+pub fn effective_length(order: u32, d: u32, threshold: u32) -> Counted
+    ensures { λ r. ⌜ r ≡ effectiveLength order d threshold ⌝ }
+{
+    let code = thiran::refused(order, d);
+    if code != 0 {
+        return Counted {
+            refusal: code,
+            count: 0,
+        };
+    }
+    let c = thiran::formula::set(order, d);
+    Counted {
+        refusal: 0,
+        count: response::louder(order, c, threshold),
+    }
+}

@@ -1,0 +1,30 @@
+-- The starred figures, all by computation.
+-- Assumes nothing.
+use mathlib.Core.Path.{refl}
+use Rattle.integer.specs.Rounding.{floor, nearest, R, clip}
+use Rattle.thiran.specs.Formula.{factor, a}
+use Rattle.thiran.specs.Coefficients.{coefficient, coefficients}
+use Rattle.allpass.specs.Allpass.{inner, next, out}
+use Rattle.allpass.specs.Length.{response, above, effectiveLength}
+use Rattle.noise.specs.Noise as Noise
+use Rattle.pitch.specs.Pitch.{octave, period, splitL, splitD, pitch}
+use Rattle.figures.specs.Starred.{Starred}
+
+pub starred : Starred
+unfolding
+    floor nearest R clip factor a coefficient coefficients inner next out response above effectiveLength
+    Noise.next Noise.value octave period splitL splitD pitch
+starred = record {
+  d2049 = refl;
+  d4096 = refl;
+  d6144 = refl;
+  d2979 = refl;
+  d6145 = refl;
+  d10240 = refl;
+  d8192 = refl;
+  allpass = refl;
+  draw = refl;
+  note1 = refl;
+  note2 = refl;
+  length = refl;
+}

@@ -1,0 +1,72 @@
+// Samples in slices: read, written, copied, and told from other numbers.
+// Contracts read the slice as the list of its numbers.
+ghost use mathlib.Core.Path.{_≡_};
+ghost use Prim.Native.Nat.{_≤_, _<_};
+ghost use lib.Dec.{leb};
+ghost use lib.IntN.{pos, natAbs};
+ghost use lib.ListN.{length, getD, set, replicate};
+ghost use Rattle.integer.specs.Rounding.{M};
+ghost use Rattle.samples.specs.Samples.{loudest};
+use integer::Value;
+
+// The number at place i.
+pub fn read(s: &[i32], i: usize) -> Value
+    requires { ⌜ i < length (now s) ⌝ }
+    ensures { λ r. ⌜ r .n ≡ getD (now (s .entry)) i (pos 0) ⌝ }
+{
+    let x = s[i];
+    Value { n: x as i64 }
+}
+
+// Puts a sample at place i.
+pub fn write(s: &mut [i32], i: usize, y: Value)
+    requires { ⌜ (i < length (now s)) × (natAbs (y .n) ≤ M) ⌝ }
+    ensures { λ _. ⌜ now (s .exit) ≡ set (now (s .entry)) i (y .n) ⌝ }
+{
+    let x = y.n as i32;
+    s[i] = x;
+}
+
+// Every number of the slice is a sample.
+pub fn all_samples(s: &[i32]) -> bool
+    ensures { λ r. ⌜ r ≡ leb (loudest (now (s .entry))) M ⌝ }
+{
+    let mut i = 0;
+    while i < s.len() {
+        if !is_sample(read(s, i)) {
+            return false;
+        }
+        i = i + 1;
+    }
+    true
+}
+
+fn is_sample(x: Value) -> bool
+    ensures { λ r. ⌜ r ≡ leb (natAbs (x .n)) M ⌝ }
+{
+    -8_388_607 <= x.n && x.n <= 8_388_607
+}
+
+// Makes the output equal to the input, which is as long.
+pub fn copy(input: &[i32], output: &mut [i32])
+    requires { ⌜ length (now input) ≡ length (now output) ⌝ }
+    ensures { λ _. ⌜ now (output .exit) ≡ now (input .entry) ⌝ }
+{
+    let mut i = 0;
+    while i < input.len() {
+        let x = input[i];
+        output[i] = x;
+        i = i + 1;
+    }
+}
+
+// Makes every number of the slice 0.
+pub fn clear(s: &mut [i32])
+    ensures { λ _. ⌜ now (s .exit) ≡ replicate (length (now (s .entry))) (pos 0) ⌝ }
+{
+    let mut i = 0;
+    while i < s.len() {
+        s[i] = 0;
+        i = i + 1;
+    }
+}
