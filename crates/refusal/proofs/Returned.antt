@@ -30,7 +30,7 @@ is-kept l e =
 pub kept-is : (l : Limit) → Kept l → met l ≡ false
 kept-is l k = rw (le-ltb (l .value) (l .low) (k .least)) (le-ltb (l .high) (l .value) (k .most))
 
-is-met : (l : Limit) → (Kept l → ⊥) → met l ≡ true
+pub is-met : (l : Limit) → (Kept l → ⊥) → met l ≡ true
 is-met l f = go (met l) refl
   where
     go : (b : Bool) → met l ≡ b → b ≡ true

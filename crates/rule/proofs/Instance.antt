@@ -1,0 +1,52 @@
+-- "It does not differ at all", at a list whose line sounds from the moment that the second copy begins: only
+-- what was read before that is asked to be zero. Assumes nothing.
+use mathlib.Core.Path.{_≡_, refl}
+use mathlib.Core.List.{List, [], _∷_}
+use Prim.Native.Nat.{ℕ, zero, suc, _<_}
+use native.Mathlib.Omega.{arith}
+use lib.IntN.{pos, negsuc}
+use lib.ListN.{getD}
+use Rattle.integer.specs.Rounding.{R, clip, floor, nearest}
+use Rattle.thiran.specs.Formula.{a, factor}
+use Rattle.thiran.specs.Coefficients.{coefficient, coefficients}
+use Rattle.allpass.specs.Allpass.{inner, next, out}
+use Rattle.rule.specs.Voice.{Tuning, noise, spent, output, written, settled, stepped}
+use Rattle.rule.specs.Calls.{Opening, Call, block, announce, number, opened, done}
+use Rattle.rule.specs.History.{read, step, call, after, new}
+use Rattle.rule.specs.State.{fresh, puts}
+use Rattle.rule.specs.Click.{announced}
+use Rattle.rule.proofs.Click.{click}
+use Rattle.rule.proofs.Ruling.{none-block}
+
+abbrev o : Opening
+o = record { N = 2; L = 2; d = 8192; G = 60000; Na = 2 }
+
+abbrev pre : List Call
+pre = block (pos 0 ∷ pos 0 ∷ []) 2 ∷ []
+
+abbrev post : List Call
+post = block (pos 5000 ∷ pos 7 ∷ pos 0 ∷ pos 0 ∷ pos 0 ∷ []) 5 ∷ []
+
+abbrev cs : List Call
+cs = block (pos 0 ∷ pos 0 ∷ []) 2 ∷ announce 1 9159 ∷ post
+
+abbrev t : Tuning
+t = record { N = 2; L = 1; d = 9159 }
+
+-- what is written: the new filter reads 0 before step 2, and 5,000 at step 3
+line : after o cs .s ≡ pos 0 ∷ pos 0 ∷ pos 5000 ∷ pos 7 ∷ negsuc 326 ∷ pos 1910 ∷ pos 2614 ∷ []
+unfolding read call step number opened done stepped settled output written noise spent coefficients
+    coefficient a factor nearest floor R clip inner next out
+line = refl
+
+quiet : (i : ℕ) → i < 2 → read (after o cs .s) i 1 ≡ pos 0
+unfolding read
+quiet zero l = refl
+quiet (suc zero) l = rw line
+quiet (suc (suc i)) l = absurd (omega arith)
+
+pub exactly : getD (puts (fresh o) cs) 4 (pos 0) ≡ new t (after o cs .s) 4
+unfolding call step number opened done stepped settled
+exactly =
+    click o cs pre post (announce 1 9159) t 2 4 4 refl (announced refl) (none-block 4 _ _ _, tt)
+    (omega arith) (omega arith) .same quiet

@@ -1,0 +1,58 @@
+-- What each accepted call changes of a voice, and that it keeps the rest.
+-- Assumes nothing.
+use mathlib.Core.Path.{_≡_, refl, sym, _∙_}
+use mathlib.Core.Bool.{Bool, true, false, cond}
+use mathlib.Core.List.{List}
+use mathlib.Core.Option.{Option, none, some}
+use Prim.Native.Nat.{ℕ}
+use native.Mathlib.Omega.{arith}
+use native.Mathlib.Decide.{ℕ-discrete}
+use borrow.Author.Tests.{eq-eqb, ne-eqb}
+use lib.Dec.{eqb}
+use lib.IntN.{ℤ}
+use Rattle.rule.specs.Voice.{Tuning, Waiting, Voice, rest, tuned, settled}
+use Rattle.rule.specs.Calls.{announce, instant, number, done, count, to}
+use Rattle.rule.specs.Keeps.{Retuned, Keeps}
+use Rattle.rule.proofs.Read.{length-window}
+
+pub none-some : {w : Waiting} → none ≡ some w → ⊥
+none-some e = let z : _≡_ {A = ℕ} 0 1 = cc in omega arith
+
+pub same-some : {w u : Waiting} → some w ≡ some u → w ≡ u
+same-some e = cc
+
+-- whichever way a change goes, it leaves all else
+pub either-keeps : (b : Bool) (v : Voice) (t t′ : Tuning) (q q′ : List ℤ) (o o′ : Option Waiting)
+    → Retuned v (cond b (tuned v t q o) (tuned v t′ q′ o′))
+either-keeps true v t t′ q q′ o o′ = record { loss = refl; advance = refl; last = refl; pluck = refl }
+either-keeps false v t t′ q q′ o o′ = record { loss = refl; advance = refl; last = refl; pluck = refl }
+
+pub keeps : (v : Voice) (r : ℕ → ℤ) → Keeps v r
+unfolding done count settled
+keeps v r = record {
+  steps-alone = λ xs n. refl;
+  set-loss = λ G. refl;
+  set-pluck = λ a n z. refl;
+  announce-waits =
+      λ L d h. rw (ne-eqb 0 (v .Na) (λ e. omega arith))
+      (record { tuning = refl; state = refl; waiting = refl });
+  announce-now =
+      λ L d e. rw (eq-eqb 0 (v .Na) (sym e)) (record { tuning = refl; state = refl; waiting = refl });
+  announce-rest = λ L d. either-keeps (eqb 0 (v .Na)) v _ _ _ _ _ _;
+  instant-rest = λ L d. record { loss = refl; advance = refl; last = refl; pluck = refl };
+  instant-now = λ L d. record { tuning = refl; state = refl; waiting = refl };
+  counted = λ L d e. let i = eq-eqb (number v (instant L d)) 0 e in (rw (i, length-window r L (v .Na)), rw i);
+}
+
+-- the eliminator of an announced change: what waits after it is that
+abbrev pub start : Tuning → Waiting
+start t = record { tuning = t; taken = 0; state = rest t }
+
+pub announced-waits : (v : Voice) (r : ℕ → ℤ) (L d : ℕ) {w : Waiting}
+    → done v r (announce L d) .waiting ≡ some w
+    → start (to v L d) ≡ w
+announced-waits v r L d {w} p = go (ℕ-discrete (v .Na) 0)
+  where
+    go : Dec (v .Na ≡ 0) → start (to v L d) ≡ w
+    go (yes e) = absurd (none-some (sym (keeps v r .announce-now L d e .waiting) ∙ p))
+    go (no f) = same-some (sym (keeps v r .announce-waits L d (omega arith) .waiting) ∙ p)

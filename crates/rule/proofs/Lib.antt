@@ -1,0 +1,27 @@
+pub mod Tests
+pub mod Refusals
+pub mod Read
+pub mod Keeps
+pub mod Steps
+pub mod Filters
+pub mod Accepted
+pub mod Voices
+pub mod Opened
+pub mod States
+pub mod New
+pub mod Nearness
+pub mod Walk
+pub mod Counts
+pub mod Sound
+pub mod Course
+pub mod Place
+pub mod Line
+pub mod Alike
+pub mod Agreement
+pub mod Click
+pub mod Ruling
+pub mod Cover
+pub mod Waits
+pub mod Sample
+pub mod Plucks
+mod Instance

@@ -1,0 +1,135 @@
+-- Demand 1, call by call: each number under its condition, and under no other.
+-- Assumes nothing.
+use mathlib.Core.Path.{_≡_, refl}
+use mathlib.Core.Logic.{_↔_}
+use mathlib.Core.List.{List, [], _∷_}
+use mathlib.Core.Option.{Option, none, some}
+use Prim.Native.Nat.{ℕ, _≤_}
+use native.Mathlib.Omega.{arith}
+use lib.IntN.{ℤ}
+use lib.ListN.{length}
+use borrow.Author.Tests.{eq-eqb, ne-eqb}
+use Rattle.integer.specs.Rounding.{M}
+use Rattle.refusal.specs.Limits.{refusal}
+use Rattle.refusal.specs.Orders.{order, delay}
+use Rattle.samples.specs.Samples.{loudest}
+use Rattle.allpass.specs.Bounds.{Within, none, more}
+use Rattle.rule.specs.Voice.{Waiting, Voice}
+use Rattle.rule.specs.Tests.{long, lossy, early, waitings, idle}
+use Rattle.rule.specs.Tests.{strong, lasting, matched, loud}
+use Rattle.rule.specs.Calls.{block, loss, pluck, instant, Opening, openLimits, changeLimits}
+use Rattle.rule.specs.Calls.{number, opened, resting, count}
+use Rattle.rule.specs.State.{call, put}
+use Rattle.rule.specs.Refusals.{Between, OpenReturns, ChangeReturns, BlockReturns, Resting, Refuses}
+use Rattle.rule.proofs.Tests.{refused, accepted}
+
+-- ---- conditions that are no limits of a number in the paper
+none-waits : (w : Option Waiting) → Between 0 (waitings w) 0 ↔ (w ≡ none)
+none-waits none = (λ b. refl, λ e. record { least = omega arith; most = omega arith })
+none-waits (some w) =
+    (λ b. absurd (omega (arith, b .most)), λ e. let z : _≡_ {A = ℕ} 0 1 = cc in absurd (omega arith))
+
+quiet : (xs : List ℤ) → loudest xs ≤ M → Within M xs
+quiet [] h = none
+quiet (x ∷ xs) h = more {x = x} (omega arith) (quiet xs (omega arith))
+
+unquiet : {xs : List ℤ} → Within M xs → loudest xs ≤ M
+unquiet none = omega arith
+unquiet (more p h) = omega (arith, unquiet h)
+
+same-length : (xs : List ℤ) (n : ℕ) → Between n (length xs) n ↔ (length xs ≡ n)
+same-length xs n =
+    (λ b. omega (arith, b .least, b .most), λ e. record { least = omega arith; most = omega arith })
+
+within-M : (xs : List ℤ) → Between 0 (loudest xs) M ↔ Within M xs
+within-M xs = (λ b. quiet xs (b .most), λ h. record { least = omega arith; most = unquiet h })
+
+-- ---- the numbers
+opens : (o : Opening) → OpenReturns (o .N) (o .L) (o .d) (o .G) (o .Na) (refusal (openLimits o))
+opens o =
+    let n = order (o .N) in
+    let l = long (o .L) in
+    let d = delay (o .N) (o .d) in
+    let g = lossy (o .G) in
+    let a = early (o .Na) in
+    record {
+      order = refused [] n (l ∷ d ∷ g ∷ a ∷ []) tt;
+      length = refused (n ∷ []) l (d ∷ g ∷ a ∷ []) tt;
+      delay = refused (n ∷ l ∷ []) d (g ∷ a ∷ []) tt;
+      loss = refused (n ∷ l ∷ d ∷ []) g (a ∷ []) tt;
+      advance = refused (n ∷ l ∷ d ∷ g ∷ []) a [] tt;
+      accepted = accepted n (l ∷ d ∷ g ∷ a ∷ []) tt;
+    }
+
+changes : (v : Voice) (L d : ℕ) → ChangeReturns v L d (refusal (changeLimits v L d))
+changes v L d =
+    let l = long L in
+    let k = delay (v .tuning .N) d in
+    let i = idle (v .waiting) in
+    let w = none-waits (v .waiting) in
+    let six = refused (l ∷ k ∷ []) i [] tt in
+    let zero = accepted l (k ∷ i ∷ []) tt in
+    record {
+      length = refused [] l (k ∷ i ∷ []) tt;
+      delay = refused (l ∷ []) k (i ∷ []) tt;
+      waits = (
+        λ e. let p = six .0 e in (p .0, (p .1 .0, λ z. p .1 .1 (w .1 z))),
+        λ p. six .1 (p .0, (p .1 .0, λ z. p .1 .1 (w .0 z))),
+      );
+      accepted = (
+        λ e. let p = zero .0 e in (p .0, (p .1 .0, w .0 (p .1 .1))),
+        λ p. zero .1 (p .0, (p .1 .0, w .1 (p .1 .1))),
+      );
+    }
+
+blocks : (v : Voice) (xs : List ℤ) (n : ℕ) → BlockReturns xs n (number v (block xs n))
+unfolding number
+blocks v xs n =
+    let l = matched xs n in
+    let k = loud xs in
+    let s = same-length xs n in
+    let w = within-M xs in
+    let nine = refused [] l (k ∷ []) tt in
+    let ten = refused (l ∷ []) k [] tt in
+    let zero = accepted l (k ∷ []) tt in
+    record {
+      differ = (λ e z. nine .0 e (s .1 z), λ f. nine .1 (λ b. f (s .0 b)));
+      input = (
+        λ e. let p = ten .0 e in (s .0 (p .0), λ z. p .1 (w .1 z)),
+        λ p. ten .1 (s .1 (p .0), λ z. p .1 (w .0 z)),
+      );
+      accepted =
+          (λ e. let p = zero .0 e in (s .0 (p .0), w .0 (p .1)), λ p. zero .1 (s .1 (p .0), w .1 (p .1)));
+    }
+
+-- ---- what Open returns
+rests : (N L d G Na : ℕ) → Resting N L d G Na (resting (record { N = N; L = L; d = d }) G Na)
+rests N L d G Na =
+    record {
+      tuning = refl;
+      loss = refl;
+      advance = refl;
+      state = refl;
+      last = refl;
+      waiting = refl;
+      pluck = refl;
+    }
+
+pub refuses : Refuses
+unfolding number opened call put count
+refuses = record {
+  opens = opens;
+  announces = changes;
+  instants = changes;
+  losses = λ v G. record { loss = refused [] (lossy G) [] tt; accepted = accepted (lossy G) [] tt };
+  plucks = λ v a k z. record {
+    amplitude = refused [] (strong a) (lasting k ∷ []) tt;
+    count = refused (strong a ∷ []) (lasting k) [] tt;
+    accepted = accepted (strong a) (lasting k ∷ []) tt;
+  };
+  blocks = blocks;
+  resting = λ o e. rw (eq-eqb (refusal (openLimits o)) 0 e) (rests (o .N) (o .L) (o .d) (o .G) (o .Na));
+  resting-refused = λ o f. rw (ne-eqb (refusal (openLimits o)) 0 f) (rests 1 1 4096 0 0);
+  unchanged = λ v c f. let e = ne-eqb (number (v .voice) c) 0 f in (rw e, rw e);
+  uncounted = λ v L d f. rw (ne-eqb (number v (instant L d)) 0 f);
+}

@@ -1,0 +1,118 @@
+-- Open and the calls on one voice, what each turns down, and what an accepted one does: document 01.
+-- Definitions alone. Assumes nothing.
+use mathlib.Core.Bool.{cond}
+use mathlib.Core.List.{List, [], _∷_}
+use mathlib.Core.Option.{none, some}
+use Prim.Native.Nat.{ℕ, zero, suc, _+_}
+use lib.Dec.{eqb}
+use lib.IntN.{ℤ, pos}
+use Rattle.refusal.specs.Limits.{Limit, refusal}
+use Rattle.refusal.specs.Orders.{order, delay}
+use Rattle.allpass.specs.Allpass.{run}
+use Rattle.rule.specs.Tests.{long, lossy, early, idle, strong, lasting, matched, loud}
+use Rattle.rule.specs.Voice.{Tuning, Pluck, Voice, A, rest, silent, settled, tuned}
+
+-- "Calls take samples as 32-bit signed numbers, all else as 32-bit unsigned"; here no value is too large
+pub data Call : Type 0 where
+  -- the input, and the length of the lent output
+  block : List ℤ → ℕ → Call
+  loss : ℕ → Call
+  -- amplitude, count, seed
+  pluck : ℕ → ℕ → ℕ → Call
+  -- L' and d'
+  announce : ℕ → ℕ → Call
+  instant : ℕ → ℕ → Call
+
+pub record Opening : Type 0 where
+  pub N : ℕ
+  pub L : ℕ
+  pub d : ℕ
+  pub G : ℕ
+  pub Na : ℕ
+
+-- ---- what each call turns down: "Tests run in the order listed"
+-- "Open: 1 order, 2 L, 3 d, 4 G, 5 Na"
+abbrev pub openLimits : Opening → List Limit
+openLimits o = order (o .N) ∷ long (o .L) ∷ delay (o .N) (o .d) ∷ lossy (o .G) ∷ early (o .Na) ∷ []
+
+-- "Announced and instant change: 2, 3, then 6"
+abbrev pub changeLimits : Voice → ℕ → ℕ → List Limit
+changeLimits v L d = long L ∷ delay (v .tuning .N) d ∷ idle (v .waiting) ∷ []
+
+-- "Loss: 4"
+abbrev pub limits : Voice → Call → List Limit
+limits v (block xs n) = matched xs n ∷ loud xs ∷ []
+limits v (loss G) = lossy G ∷ []
+limits v (pluck a n z) = strong a ∷ lasting n ∷ []
+limits v (announce L d) = changeLimits v L d
+limits v (instant L d) = changeLimits v L d
+
+-- the number that a call returns
+unfoldable pub number : Voice → Call → ℕ
+number v c = refusal (limits v c)
+
+-- ---- what Open returns
+abbrev pub resting : Tuning → ℕ → ℕ → Voice
+resting t G Na =
+    record { tuning = t; G = G; Na = Na; state = rest t; last = pos 0; waiting = none; pluck = silent }
+
+-- "It returns a resting voice of order 1 with L 1, d 4,096, G 0, Na 0" where it refuses
+unfoldable pub opened : Opening → Voice
+opened o =
+    cond (eqb (refusal (openLimits o)) 0)
+    (resting (record { N = o .N; L = o .L; d = o .d }) (o .G) (o .Na))
+    (resting (record { N = 1; L = 1; d = 4096 }) 0 0)
+
+-- ---- what an accepted call does, but for the steps of a block
+abbrev pub to : Voice → ℕ → ℕ → Tuning
+to v L d = record { N = v .tuning .N; L = L; d = d }
+
+-- s(n − L − a), .. , s(n − L − 1): what a filter of length L takes at the steps from n − a to n − 1
+abbrev pub window : (ℕ → ℤ) → ℕ → ℕ → List ℤ
+window r L zero = []
+window r L (suc a) = r (L + suc a) ∷ window r L a
+
+-- v with another loss and pluck
+abbrev pub played : Voice → ℕ → Pluck → Voice
+played v G p = record {
+  tuning = v .tuning;
+  G = G;
+  Na = v .Na;
+  state = v .state;
+  last = v .last;
+  waiting = v .waiting;
+  pluck = p;
+}
+
+-- "An announced change starts its eliminator at rest; with Na = 0 it takes effect in the call, from rest,
+-- and never waits"
+abbrev pub announced : Voice → Tuning → Voice
+announced v t = settled v (some (record { tuning = t; taken = 0; state = rest t }))
+
+-- "An instant change before step n runs a resting eliminator over s(k − L') for k = n − Na to n − 1,
+-- then replaces L, d and the state"
+abbrev pub retuned : Voice → (ℕ → ℤ) → Tuning → Voice
+retuned v r t = tuned v t (run (A t) (rest t) (window r (t .L) (v .Na))) none
+
+unfoldable pub done : Voice → (ℕ → ℤ) → Call → Voice
+done v r (block xs n) = v
+done v r (loss G) = played v G (v .pluck)
+done v r (pluck a n z) = played v (v .G) (record { amplitude = a; left = n; noise = z })
+done v r (announce L d) = announced v (to v L d)
+done v r (instant L d) = retuned v r (to v L d)
+
+-- "an accepted block of b samples is b steps, every other call .. none"
+abbrev pub inputs : Call → List ℤ
+inputs (block xs n) = xs
+inputs (loss G) = []
+inputs (pluck a n z) = []
+inputs (announce L d) = []
+inputs (instant L d) = []
+
+-- "it also returns the number of samples run, which is Na"; "the instant change counts 0" where it is refused
+unfoldable pub count : Voice → Call → ℕ
+count v (block xs n) = 0
+count v (loss G) = 0
+count v (pluck a n z) = 0
+count v (announce L d) = 0
+count v (instant L d) = cond (eqb (number v (instant L d)) 0) (v .Na) 0

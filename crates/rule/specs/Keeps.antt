@@ -1,0 +1,85 @@
+-- What each accepted call changes of a voice, that it keeps the rest, and how many steps it is.
+-- Statements alone: proofs/Keeps.antt and Counts.antt prove them of every voice and history. Assumes nothing.
+use mathlib.Core.Path.{_≡_}
+use mathlib.Core.List.{List}
+use mathlib.Core.Option.{Option, none, some}
+use Prim.Native.Nat.{ℕ, _+_, _<_}
+use lib.IntN.{ℤ}
+use lib.ListN.{length}
+use Rattle.allpass.specs.Allpass.{run}
+use Rattle.rule.specs.Voice.{Tuning, Waiting, Voice, A, rest}
+use Rattle.rule.specs.History.{History, steps, through, call}
+use Rattle.rule.specs.Calls.{Call, block, loss, pluck, announce, instant}
+use Rattle.rule.specs.Calls.{number, done, count, to, window}
+
+-- in u the tuning t is in force, with the filter state q, and w waits
+pub record InForce (u : Voice) (t : Tuning) (q : List ℤ) (w : Option Waiting) : Type 0 where
+  pub tuning : u .tuning ≡ t
+  pub state : u .state ≡ q
+  pub waiting : u .waiting ≡ w
+
+-- v and u agree in all else: what no change touches
+pub record Retuned (v u : Voice) : Type 0 where
+  pub loss : u .G ≡ v .G
+  pub advance : u .Na ≡ v .Na
+  pub last : u .last ≡ v .last
+  pub pluck : u .pluck ≡ v .pluck
+
+pub record Keeps (v : Voice) (r : ℕ → ℤ) : Type 0 where
+  -- a block does nothing but its steps, a loss sets G alone, and a pluck the pluck alone:
+  -- "A new pluck replaces the rest of the old one"
+  pub steps-alone : (xs : List ℤ) (n : ℕ) → done v r (block xs n) ≡ v
+  pub set-loss : (G : ℕ)
+      → done v r (loss G)
+      ≡ record {
+        tuning = v .tuning;
+        G = G;
+        Na = v .Na;
+        state = v .state;
+        last = v .last;
+        waiting = v .waiting;
+        pluck = v .pluck;
+      }
+  pub set-pluck : (a n z : ℕ)
+      → done v r (pluck a n z)
+      ≡ record {
+        tuning = v .tuning;
+        G = v .G;
+        Na = v .Na;
+        state = v .state;
+        last = v .last;
+        waiting = v .waiting;
+        pluck = record { amplitude = a; left = n; noise = z };
+      }
+  -- an announced change leaves the filter in force, and waits at rest; with Na 0 it takes effect, from rest
+  pub announce-waits : (L d : ℕ) → 0 < v .Na
+      → InForce (done v r (announce L d)) (v .tuning) (v .state)
+      (some (record { tuning = to v L d; taken = 0; state = rest (to v L d) }))
+  pub announce-now : (L d : ℕ) → v .Na ≡ 0
+      → InForce (done v r (announce L d)) (to v L d) (rest (to v L d)) none
+  pub announce-rest : (L d : ℕ) → Retuned v (done v r (announce L d))
+  -- an instant change is in force, from the run of a resting eliminator over the last Na reads
+  pub instant-now : (L d : ℕ)
+      → InForce (done v r (instant L d)) (to v L d)
+      (run (A (to v L d)) (rest (to v L d)) (window r L (v .Na))) none
+  pub instant-rest : (L d : ℕ) → Retuned v (done v r (instant L d))
+  -- "it also returns the number of samples run, which is Na"
+  pub counted : (L d : ℕ) → number v (instant L d) ≡ 0
+      → (count v (instant L d) ≡ length (window r L (v .Na))) × (count v (instant L d) ≡ v .Na)
+
+-- ---- "an accepted block of b samples is b steps, every other call and every refused one is none"
+pub record NoStep (h u : History) : Type 0 where
+  pub s : u .s ≡ h .s
+  pub y : u .y ≡ h .y
+
+pub record Counts (h : History) : Type 0 where
+  -- the steps of a block take its inputs in turn
+  pub block-runs : (xs : List ℤ) (n : ℕ) → number (h .voice) (block xs n) ≡ 0
+      → call h (block xs n) ≡ through h xs
+  pub block-steps : (xs : List ℤ) (n : ℕ) → number (h .voice) (block xs n) ≡ 0
+      → steps (call h (block xs n)) ≡ steps h + length xs
+  pub loss-none : (G : ℕ) → NoStep h (call h (loss G))
+  pub pluck-none : (a n z : ℕ) → NoStep h (call h (pluck a n z))
+  pub announce-none : (L d : ℕ) → NoStep h (call h (announce L d))
+  pub instant-none : (L d : ℕ) → NoStep h (call h (instant L d))
+  pub refused-none : (c : Call) → (number (h .voice) c ≡ 0 → ⊥) → call h c ≡ h

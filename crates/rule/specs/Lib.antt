@@ -1,0 +1,11 @@
+pub mod Voice
+pub mod Tests
+pub mod Calls
+pub mod State
+pub mod History
+pub mod Valid
+pub mod Refusals
+pub mod Keeps
+pub mod Plucks
+pub mod Click
+pub mod Demands

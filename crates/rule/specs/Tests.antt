@@ -1,0 +1,43 @@
+-- The single tests of "What each call turns down"; those of order and delay are crate refusal's.
+-- Definitions alone. Assumes nothing.
+use mathlib.Core.List.{List}
+use mathlib.Core.Option.{Option, none, some}
+use Prim.Native.Nat.{ℕ}
+use lib.IntN.{ℤ}
+use lib.ListN.{length}
+use Rattle.integer.specs.Rounding.{M}
+use Rattle.refusal.specs.Limits.{Limit}
+use Rattle.samples.specs.Samples.{loudest}
+use Rattle.rule.specs.Voice.{Waiting}
+
+-- "2 L, .. 4 G, 5 Na outside the limits": L 1 to 2,048, G 0 to 65,535, Na 0 to 64
+abbrev pub long : ℕ → Limit
+long L = record { number = 2; low = 1; value = L; high = 2048 }
+
+abbrev pub lossy : ℕ → Limit
+lossy G = record { number = 4; low = 0; value = G; high = 65535 }
+
+abbrev pub early : ℕ → Limit
+early Na = record { number = 5; low = 0; value = Na; high = 64 }
+
+-- "6 a change waits": as many as wait, which may be none
+abbrev pub waitings : Option Waiting → ℕ
+waitings none = 0
+waitings (some w) = 1
+
+abbrev pub idle : Option Waiting → Limit
+idle w = record { number = 6; low = 0; value = waitings w; high = 0 }
+
+-- "Pluck: 7 amplitude above 255, 8 count 0 or above 2,048"
+abbrev pub strong : ℕ → Limit
+strong a = record { number = 7; low = 0; value = a; high = 255 }
+
+abbrev pub lasting : ℕ → Limit
+lasting n = record { number = 8; low = 1; value = n; high = 2048 }
+
+-- "Block: 9 input and output differ in length, 10 an input outside −M to M"
+abbrev pub matched : List ℤ → ℕ → Limit
+matched xs n = record { number = 9; low = n; value = length xs; high = n }
+
+abbrev pub loud : List ℤ → Limit
+loud xs = record { number = 10; low = 0; value = loudest xs; high = M }
