@@ -1,0 +1,99 @@
+-- What an accepted change makes of a voice from a resting eliminator of its tuning, and what it counts.
+-- Assumes nothing.
+use mathlib.Core.Path.{_≡_, refl, sym, ap, _∙_}
+use mathlib.Core.List.{List}
+use mathlib.Core.Option.{none, some}
+use Prim.Native.Nat.{ℕ}
+use native.Mathlib.Omega.{arith}
+use borrow.Author.Tests.{eq-eqb, ne-eqb}
+use lib.IntN.{ℤ}
+use Rattle.integer.specs.Rounding.{M}
+use Rattle.allpass.specs.Allpass as Allpass
+use Rattle.allpass.specs.Allpass.{run}
+use Rattle.allpass.specs.Bounds.{Within}
+use Rattle.line.specs.Ring.{ring}
+use Rattle.rule.specs.Voice as Rule
+use Rattle.rule.specs.Voice.{Voice, A, rest, settled, tuned}
+use Rattle.rule.specs.Calls.{announce, instant, number, window, to, announced, done, count}
+use Rattle.rule.specs.State.{back}
+use Rattle.voice.specs.declared.parts.Tuning.{Tuning}
+use Rattle.voice.specs.declared.parts.Filter.{Filter}
+use Rattle.voice.specs.declared.parts.Waiting.{Waiting}
+use Rattle.voice.specs.declared.parts.Waiting.the-variants.{Idle, Announced}
+use Rattle.voice.specs.declared.parts.Head.{Head}
+use Rattle.voice.specs.Struct.{tuningOf, voiceOf}
+use Rattle.voice.specs.Valid.{Waits, Fit}
+use Rattle.voice.specs.Sample.{Ran}
+use Rattle.voice.specs.Called.{Rests, Called, On}
+use Rattle.voice.proofs.Called.{voice-by, fit-as, called, called-on}
+
+-- ---- in the rule's terms
+module _ (v : Voice) (t : Rule.Tuning) where
+  announced-now : v .Na ≡ 0 → announced v t ≡ tuned v t (rest t) none
+  unfolding settled
+  announced-now e = rw (eq-eqb 0 (v .Na) (sym e))
+
+  announced-later : (v .Na ≡ 0 → ⊥)
+      → announced v t
+      ≡ tuned v (v .tuning) (v .state) (some (record { tuning = t; taken = 0; state = rest t }))
+  unfolding settled
+  announced-later f = rw (ne-eqb 0 (v .Na) (λ z. f (sym z)))
+
+module _ (v : Voice) (L d : ℕ) where
+  pub count-refused : (number v (instant L d) ≡ 0 → ⊥) → 0 ≡ count v (instant L d)
+  unfolding count
+  count-refused f = rw (ne-eqb (number v (instant L d)) 0 f)
+
+  pub count-accepted : 0 ≡ number v (instant L d) → v .Na ≡ count v (instant L d)
+  unfolding count
+  count-accepted e = rw (eq-eqb (number v (instant L d)) 0 (sym e))
+
+-- ---- in the structs of the code
+-- h with another filter in force and another change waiting
+abbrev anew : Head → Filter → Waiting → Head
+anew h f w = record {
+  filter = f;
+  loss = h .loss;
+  advance = h .advance;
+  last = h .last;
+  waiting = w;
+  pluck = h .pluck;
+  at = h .at;
+}
+
+module _ {h : Head} {L d : ℕ} {e : Filter} (k : Fit h) (r : Rests (h .filter .tuning .order) L d e) where
+  pub changes-now : 0 ≡ number (voiceOf h) (announce L d) → h .advance ≡ 0
+      → Called h (announce L d) (record { refusal = 0; head = anew h e Idle })
+  unfolding done
+  changes-now n z =
+      let i = voice-by (anew h e Idle) (ap tuningOf (r .tuning)) (r .state) in
+      let j = announced-now (voiceOf h) (to (voiceOf h) L d) z in
+      called h (announce L d) (anew h e Idle) refl n refl
+      (fit-as k (r .tuned) (k .loss) tt (k .pluck)) (λ q. i ∙ sym j)
+
+  pub changes-later : 0 ≡ number (voiceOf h) (announce L d) → (h .advance ≡ 0 → ⊥)
+      → Called h (announce L d) (record { refusal = 0; head = anew h (h .filter) (Announced e 0) })
+  unfolding done
+  changes-later n f =
+      let w : Waits (h .filter .tuning .order) (h .advance) e 0
+      = record { tuned = r .tuned; same = ap (λ (t : Tuning). t .order) (r .tuning); fewer = omega arith } in
+      let j = announced-later (voiceOf h) (to (voiceOf h) L d) f in
+      called h (announce L d) (anew h (h .filter) (Announced e 0)) refl n refl
+      (fit-as k (k .filter) (k .loss) w (k .pluck)) (λ q. cc (r .tuning, r .state, j))
+
+  pub changes-instantly : {p : Filter} (l : List ℤ) → Within M (ring (h .at) l)
+      → 0 ≡ number (voiceOf h) (instant L d)
+      → Ran e (window (back (ring (h .at) l)) (e .tuning .length) (h .advance)) p
+      → On h l (instant L d) (record { refusal = 0; head = anew h p Idle }) l
+  unfolding done
+  changes-instantly {p} l in-line n ran =
+      let a = h .advance in
+      let q = back (ring (h .at) l) in
+      let N = h .filter .tuning .order in
+      let state =
+      ran .state
+      ∙ ap (λ (v : List ℤ). run (A (tuningOf (e .tuning))) v (window q (e .tuning .length) a)) (r .state)
+      ∙ ap (λ (t : Tuning). run (A (tuningOf t)) (Allpass.rest N) (window q (t .length) a)) (r .tuning) in
+      let i = voice-by (anew h p Idle) (ap tuningOf (ran .tuning ∙ r .tuning)) state in
+      called-on h (instant L d) (anew h p Idle) refl n refl
+      (fit-as k (ran .tuned) (k .loss) tt (k .pluck)) l in-line i

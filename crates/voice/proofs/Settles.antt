@@ -1,0 +1,63 @@
+-- A head whose waiting change took a sample: none waited, the change is put in force, or it waits on.
+-- Assumes nothing.
+use mathlib.Core.Path.{_≡_, refl, ap, _∙_}
+use Prim.Native.Nat.{ℕ, suc, _+_}
+use native.Mathlib.Omega.{arith}
+use borrow.Author.Tests.{eq-eqb, ne-eqb}
+use lib.IntN.{ℤ}
+use Rattle.rule.specs.Voice as Rule
+use Rattle.voice.specs.declared.parts.Tuning.{Tuning}
+use Rattle.voice.specs.declared.parts.Filter.{Filter}
+use Rattle.voice.specs.declared.parts.Waiting.{Waiting}
+use Rattle.voice.specs.declared.parts.Waiting.the-variants.{Idle, Announced}
+use Rattle.voice.specs.declared.parts.Head.{Head}
+use Rattle.voice.specs.Struct.{withOf}
+use Rattle.voice.specs.Valid.{Tuned, Waits, Waiting-valid, Fit}
+use Rattle.voice.specs.Sample.{Moved, Settles}
+
+module _ {h : Head} (f : Fit h) where
+  pub fit-with : {n : Filter} (w : Waiting) → Tuned n → Waiting-valid (n .tuning .order) (h .advance) w
+      → Fit (withOf h n w)
+  fit-with w t v = record {
+    filter = t;
+    loss = f .loss;
+    advance = f .advance;
+    last = f .last;
+    waiting = v;
+    pluck = f .pluck;
+    at = f .at;
+  }
+
+  pub settles-idle : {g : ℤ} → Settles h Idle g h
+  unfolding Rule.settled
+  settles-idle = record { voice = λ q r. refl; fit = f; place = refl }
+
+  module _ {e n : Filter} {k : ℕ} {g : ℤ}
+      (w : Waits (h .filter .tuning .order) (h .advance) e k) (m : Moved e g n) where
+    pub settles-now : k + 1 ≡ h .advance → Settles h (Announced e k) g (withOf h n Idle)
+    unfolding Rule.settled
+    settles-now z = record {
+      voice = λ q r.
+          let i : suc k ≡ h .advance = omega arith in
+          rw (eq-eqb (suc k) (h .advance) i, r, m .state, m .tuning);
+      fit = fit-with Idle (m .tuned) tt;
+      place = refl;
+    }
+
+    pub settles-later : (k + 1 ≡ h .advance → ⊥)
+        → Settles h (Announced e k) g (withOf h (h .filter) (Announced n (k + 1)))
+    unfolding Rule.settled
+    settles-later z = record {
+      voice = λ q r.
+          let i : k + 1 ≡ suc k = omega arith in
+          let j : suc k ≡ h .advance → ⊥ = λ (x : suc k ≡ h .advance). z (i ∙ x) in
+          rw (ne-eqb (suc k) (h .advance) j, r, m .state, m .tuning, i);
+      fit =
+          fit-with (Announced n (k + 1)) (f .filter)
+          (record {
+            tuned = m .tuned;
+            same = ap (λ (t : Tuning). t .order) (m .tuning) ∙ w .same;
+            fewer = omega (arith, w .fewer);
+          });
+      place = refl;
+    }

@@ -1,0 +1,27 @@
+-- `voice::change::refused` meets its contract: the tests of the tuning, and then whether a change waits.
+-- Assumes nothing.
+use mathlib.Core.List.{[], _∷_}
+use borrow.Author.Needs.{needs}
+use Rattle.refusal.specs.Orders.{delay}
+use Rattle.rule.specs.Tests.{long}
+use Rattle.voice.proofs.change.refused.Statement.{statement}
+use Rattle.voice.proofs.change.refused.Tie as tie
+
+untuned-requires : tie.Need-untuned-requires
+untuned-requires c κs = search needs
+
+waiting-requires : tie.Need-waiting-requires
+waiting-requires c κs = search needs
+
+tested-requires : tie.Need-tested-requires
+tested-requires c κs = search needs
+
+returns : tie.Need-returns
+returns c =
+    let u = c .before .before in
+    let s = u .before in
+    let tuning = long (s .args .length) ∷ delay (s .args .h .filter .tuning .order) (s .args .delay) ∷ [] in
+    rw (c .before .waiting .ensures) at (c .tested .ensures tuning tt (u .untuned .ensures))
+
+pub refused-spec : {M : Type 1} → statement M
+refused-spec = tie.close (tie.spec untuned-requires waiting-requires tested-requires returns)

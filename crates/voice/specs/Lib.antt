@@ -1,0 +1,4 @@
+pub mod Struct
+pub mod Valid
+pub mod Sample
+pub mod Called
