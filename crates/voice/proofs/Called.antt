@@ -70,7 +70,7 @@ module _ (h : Head) (c : Call) where
   }
 
   -- r is what an accepted one makes of h
-  module _ (r : Head) (still : inputs c ≡ []) (e : 0 ≡ number (voiceOf h) c)
+  module _ (r : Head) {k : ℕ} (still : inputs c ≡ []) (e : k ≡ number (voiceOf h) c) (z : k ≡ 0)
       (place : r .at ≡ h .at) (fit : Fit r) where
     after : (l : List ℤ) → voiceOf r ≡ done (voiceOf h) (back (ring (h .at) l)) c
         → stateOf r l ≡ call (stateOf h l) c
@@ -79,13 +79,13 @@ module _ (h : Head) (c : Call) where
           i,
           place,
           ap (λ (xs : List ℤ). blockAfter (told (stateOf h l) c) xs) still,
-          call-accepted (stateOf h l) c (sym e),
+          call-accepted (stateOf h l) c (sym e ∙ z),
         )
 
     pub called : ((q : ℕ → ℤ) → voiceOf r ≡ done (voiceOf h) q c)
         → Called h c (record { refusal = 0; head = r })
     called i = record {
-      number = e;
+      number = sym z ∙ e;
       state = λ l. after l (i (back (ring (h .at) l)));
       fit = fit;
       place = place;
@@ -95,7 +95,7 @@ module _ (h : Head) (c : Call) where
         → voiceOf r ≡ done (voiceOf h) (back (ring (h .at) l)) c
         → On h l c (record { refusal = 0; head = r }) l
     called-on l w i = record {
-      number = e;
+      number = sym z ∙ e;
       state = after l i;
       valid = record { fit = fit; line = rw place w };
     }

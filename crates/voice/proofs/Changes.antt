@@ -40,13 +40,13 @@ module _ (v : Voice) (t : Rule.Tuning) where
   announced-later f = rw (ne-eqb 0 (v .Na) (λ z. f (sym z)))
 
 module _ (v : Voice) (L d : ℕ) where
-  pub count-refused : (number v (instant L d) ≡ 0 → ⊥) → 0 ≡ count v (instant L d)
+  pub count-refused : {n : ℕ} → n ≡ number v (instant L d) → (n ≡ 0 → ⊥) → 0 ≡ count v (instant L d)
   unfolding count
-  count-refused f = rw (ne-eqb (number v (instant L d)) 0 f)
+  count-refused e f = rw (ne-eqb (number v (instant L d)) 0 (λ z. f (e ∙ z)))
 
-  pub count-accepted : 0 ≡ number v (instant L d) → v .Na ≡ count v (instant L d)
+  pub count-accepted : {n : ℕ} → n ≡ number v (instant L d) → n ≡ 0 → v .Na ≡ count v (instant L d)
   unfolding count
-  count-accepted e = rw (eq-eqb (number v (instant L d)) 0 (sym e))
+  count-accepted e z = rw (eq-eqb (number v (instant L d)) 0 (sym e ∙ z))
 
 -- ---- in the structs of the code
 -- h with another filter in force and another change waiting
@@ -62,31 +62,31 @@ anew h f w = record {
 }
 
 module _ {h : Head} {L d : ℕ} {e : Filter} (k : Fit h) (r : Rests (h .filter .tuning .order) L d e) where
-  pub changes-now : 0 ≡ number (voiceOf h) (announce L d) → h .advance ≡ 0
+  pub changes-now : {n : ℕ} → n ≡ number (voiceOf h) (announce L d) → n ≡ 0 → h .advance ≡ 0
       → Called h (announce L d) (record { refusal = 0; head = anew h e Idle })
   unfolding done
-  changes-now n z =
+  changes-now n z a =
       let i = voice-by (anew h e Idle) (ap tuningOf (r .tuning)) (r .state) in
-      let j = announced-now (voiceOf h) (to (voiceOf h) L d) z in
-      called h (announce L d) (anew h e Idle) refl n refl
+      let j = announced-now (voiceOf h) (to (voiceOf h) L d) a in
+      called h (announce L d) (anew h e Idle) refl n z refl
       (fit-as k (r .tuned) (k .loss) tt (k .pluck)) (λ q. i ∙ sym j)
 
-  pub changes-later : 0 ≡ number (voiceOf h) (announce L d) → (h .advance ≡ 0 → ⊥)
+  pub changes-later : {n : ℕ} → n ≡ number (voiceOf h) (announce L d) → n ≡ 0 → (h .advance ≡ 0 → ⊥)
       → Called h (announce L d) (record { refusal = 0; head = anew h (h .filter) (Announced e 0) })
   unfolding done
-  changes-later n f =
+  changes-later n z f =
       let w : Waits (h .filter .tuning .order) (h .advance) e 0
       = record { tuned = r .tuned; same = ap (λ (t : Tuning). t .order) (r .tuning); fewer = omega arith } in
       let j = announced-later (voiceOf h) (to (voiceOf h) L d) f in
-      called h (announce L d) (anew h (h .filter) (Announced e 0)) refl n refl
+      called h (announce L d) (anew h (h .filter) (Announced e 0)) refl n z refl
       (fit-as k (k .filter) (k .loss) w (k .pluck)) (λ q. cc (r .tuning, r .state, j))
 
   pub changes-instantly : {p : Filter} (l : List ℤ) → Within M (ring (h .at) l)
-      → 0 ≡ number (voiceOf h) (instant L d)
+      → {n : ℕ} → n ≡ number (voiceOf h) (instant L d) → n ≡ 0
       → Ran e (window (back (ring (h .at) l)) (e .tuning .length) (h .advance)) p
       → On h l (instant L d) (record { refusal = 0; head = anew h p Idle }) l
   unfolding done
-  changes-instantly {p} l in-line n ran =
+  changes-instantly {p} l in-line n z ran =
       let a = h .advance in
       let q = back (ring (h .at) l) in
       let N = h .filter .tuning .order in
@@ -95,5 +95,5 @@ module _ {h : Head} {L d : ℕ} {e : Filter} (k : Fit h) (r : Rests (h .filter .
       ∙ ap (λ (v : List ℤ). run (A (tuningOf (e .tuning))) v (window q (e .tuning .length) a)) (r .state)
       ∙ ap (λ (t : Tuning). run (A (tuningOf t)) (Allpass.rest N) (window q (t .length) a)) (r .tuning) in
       let i = voice-by (anew h p Idle) (ap tuningOf (ran .tuning ∙ r .tuning)) state in
-      called-on h (instant L d) (anew h p Idle) refl n refl
+      called-on h (instant L d) (anew h p Idle) refl n z refl
       (fit-as k (ran .tuned) (k .loss) tt (k .pluck)) l in-line i

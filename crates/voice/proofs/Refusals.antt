@@ -1,5 +1,5 @@
--- Tests that turn a call down, or let it pass, before other tests, and what an opening or a change that passes
--- has. Assumes nothing.
+-- Tests that turn a call down or let it pass, before other tests; what an opening or change that passes has.
+-- Assumes nothing.
 use mathlib.Core.Path.{_≡_, refl, sym}
 use mathlib.Core.Bool.{Bool, true, false, cond}
 use mathlib.Core.List.{List, [], _∷_, _++_}
@@ -53,11 +53,8 @@ opening-tunes (more n (more l (more d (more g (more a none))))) = (
   a .most,
 )
 
-pub change-tunes : (h : Head) (L d : ℕ) → Fit h → refusal (changeLimits (voiceOf h) L d) ≡ 0
+pub change-tunes : {h : Head} {L d : ℕ} → Fit h → AllKept (changeLimits (voiceOf h) L d)
     → Tunes (h .filter .tuning .order) L d
-change-tunes h L d k e = go (passed (changeLimits (voiceOf h) L d) tt e)
-  where
-    go : AllKept (changeLimits (voiceOf h) L d) → Tunes (h .filter .tuning .order) L d
-    go (more l (more d (more w none))) =
-        let t = k .filter .takes in
-        (record { least = t .least; most = t .most; low = d .least; high = d .most }, l .least, l .most)
+change-tunes k (more l (more d (more w none))) =
+    let t = k .filter .takes in
+    (record { least = t .least; most = t .most; low = d .least; high = d .most }, l .least, l .most)

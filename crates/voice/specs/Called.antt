@@ -1,15 +1,16 @@
--- What each call on a voice returns and leaves, in the terms of the sample rule: refused calls too.
+-- What each call on a voice, and each part of one, returns and leaves, in the sample rule's terms; refused too.
 -- Definitions alone. Assumes nothing.
 use mathlib.Core.Path.{_≡_}
 use mathlib.Core.Bool.{cond}
 use mathlib.Core.List.{List, [], _∷_, _++_}
-use Prim.Native.Nat.{ℕ}
+use Prim.Native.Nat.{ℕ, _≤_}
 use lib.Dec.{T, eqb}
 use lib.IntN.{ℤ}
 use Rattle.refusal.specs.Limits.{Limit, refusal}
+use Rattle.refusal.specs.Orders.{Takes}
 use Rattle.refusal.specs.Returned.{numbered}
 use Rattle.allpass.specs.Allpass.{rest}
-use Rattle.rule.specs.Calls.{Call, Opening, openLimits, number}
+use Rattle.rule.specs.Calls.{Call, Opening, openLimits, changeLimits, number}
 use Rattle.rule.specs.State.{call, put, fresh}
 use Rattle.voice.specs.declared.parts.Filter.{Filter}
 use Rattle.voice.specs.declared.parts.Head.{Head}
@@ -27,6 +28,11 @@ pub record Rests (N L d : ℕ) (r : Filter) : Type 0 where
   pub tuning : r .tuning ≡ record { order = N; length = L; delay = d }
   pub state : filterOf r ≡ rest N
   pub tuned : Tuned r
+
+-- r is what a change is refused by; the tuning of one that is not is within its limits
+pub record Refuses (h : Head) (L d r : ℕ) : Type 0 where
+  pub number : r ≡ refusal (changeLimits (voiceOf h) L d)
+  pub within : r ≡ 0 → Takes (h .filter .tuning .order) d × (1 ≤ L) × (L ≤ 2048)
 
 -- Open: its number, and the voice, "a resting voice .." where it refuses
 pub record Opens (o : Opening) (r : Opened) : Type 0 where

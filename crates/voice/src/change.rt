@@ -3,17 +3,16 @@
 ghost use mathlib.Core.Path.{_≡_};
 ghost use Prim.Native.Nat.{_≤_, _<_};
 ghost use Rattle.integer.specs.Rounding.{M};
-ghost use Rattle.refusal.specs.Limits.{refusal};
 ghost use Rattle.allpass.specs.Bounds.{Within};
-ghost use Rattle.rule.specs.Calls.{announce as Announce, instant as Instant, changeLimits};
+ghost use Rattle.rule.specs.Calls.{announce as Announce, instant as Instant, count as Count};
+ghost use Rattle.rule.specs.Calls.{window};
 ghost use Rattle.rule.specs.Tests.{waitings};
-ghost use Rattle.rule.specs.Calls.{window, count as Count};
 ghost use Rattle.rule.specs.State.{back};
 ghost use Rattle.line.specs.Ring.{ring};
 ghost use Rattle.voice.specs.Struct.{waitingOf, voiceOf};
 ghost use Rattle.voice.specs.Valid.{Tuned, Fit, Valid};
 ghost use Rattle.voice.specs.Sample.{Ran};
-ghost use Rattle.voice.specs.Called.{Called, On};
+ghost use Rattle.voice.specs.Called.{Refuses, Called, On};
 use crate::open::resting;
 use crate::open::tested;
 use crate::open::untuned;
@@ -38,7 +37,7 @@ fn waiting(w: Waiting) -> u32
 // What a change is refused by: 2, 3, then 6, else 0.
 fn refused(h: Head, length: u32, delay: u32) -> u32
     requires { ⌜ Fit h ⌝ }
-    ensures { λ r. ⌜ r ≡ refusal (changeLimits (voiceOf h) length delay) ⌝ }
+    ensures { λ r. ⌜ Refuses h length delay r ⌝ }
 {
     let code = untuned(h.filter.tuning.order, length, delay);
     let w = h.waiting;

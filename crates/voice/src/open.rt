@@ -81,8 +81,10 @@ fn refused(order: u32, length: u32, delay: u32, loss: u32, advance: u32) -> u32
 fn fresh(order: u32, length: u32, delay: u32, loss: u32, advance: u32) -> Voice
     requires { ⌜ AllKept
         (openLimits (record { N = order; L = length; d = delay; G = loss; Na = advance })) ⌝ }
-    ensures { λ r. ⌜ stateOf (r .head) (r .line)
-        ≡ record { voice = Resting (record { N = order; L = length; d = delay }) loss advance; line = silence } ⌝ }
+    ensures { λ r. ⌜ stateOf (r .head) (r .line) ≡ record {
+      voice = Resting (record { N = order; L = length; d = delay }) loss advance;
+      line = silence;
+    } ⌝ }
     ensures { λ r. ⌜ Valid (r .head) (r .line) ⌝ }
 {
     let filter = resting(order, length, delay);

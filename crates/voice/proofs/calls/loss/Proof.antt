@@ -28,9 +28,10 @@ unfolding number done
 returns-2 c =
     let s = c .before .before in
     let k = s .pre in
-    let e = sym (test (c .before)) ∙ c .if1 .left in
-    let small = first-kept (passed (lossy (s .args .g) ∷ []) tt e) .most in
-    called (s .args .head) (loss (s .args .g)) _ refl (sym e) refl
+    let e = test (c .before) in
+    let z = c .if1 .left in
+    let small = first-kept (passed (lossy (s .args .g) ∷ []) tt (sym e ∙ z)) .most in
+    called (s .args .head) (loss (s .args .g)) _ refl e z refl
     (fit-as k (k .filter) small (k .waiting) (k .pluck)) (λ q. refl)
 
 pub loss-spec : {M : Type 1} → statement M

@@ -41,10 +41,11 @@ unfolding number done
 returns-2 c =
     let s = c .before .before .before in
     let k = s .pre in
-    let e = sym (both (c .before)) ∙ c .if1 .left in
-    let kept = passed (tests s) tt e in
+    let e = both (c .before) in
+    let z = c .if1 .left in
+    let kept = passed (tests s) tt (sym e ∙ z) in
     let count = first-kept (rest-kept kept) in
-    called (s .args .head) (asked s) _ refl (sym e) refl
+    called (s .args .head) (asked s) _ refl e z refl
     (fit-as k (k .filter) (k .loss) (k .waiting) (record {
       amplitude = first-kept kept .most;
       left = count .most;

@@ -1,11 +1,7 @@
 -- `voice::change::announce` meets its contract: its eliminator is at rest, in force at once or waiting.
 -- Assumes nothing.
-use mathlib.Core.Path.{_≡_, sym, _∙_}
 use borrow.Author.Needs.{needs}
-use Rattle.refusal.specs.Limits.{refusal}
-use Rattle.rule.specs.Calls.{announce, changeLimits, number}
-use Rattle.voice.specs.Struct.{voiceOf}
-use Rattle.voice.proofs.Refusals.{change-tunes}
+use Rattle.rule.specs.Calls.{announce, number}
 use Rattle.voice.proofs.Called.{called-refused}
 use Rattle.voice.proofs.Changes.{changes-now, changes-later}
 use Rattle.voice.proofs.change.announce.Statement.{statement}
@@ -19,18 +15,11 @@ unfolding number
 returns c =
     let s = c .before .before in
     let a = s .args in
-    let e = c .before .refused .ensures in
+    let e = c .before .refused .ensures .number in
     called-refused (a .head) (announce (a .length) (a .delay)) (s .pre) e (c .if1 .taken)
 
-accepted : (c : tie.Else1)
-    → let a = c .before .before .args in 0 ≡ refusal (changeLimits (voiceOf (a .head)) (a .length) (a .delay))
-accepted c = sym (c .if1 .left) ∙ c .before .refused .ensures
-
 resting-requires : tie.Need-resting-requires
-resting-requires c κs =
-    let s = c .before .before in
-    let a = s .args in
-    change-tunes (a .head) (a .length) (a .delay) (s .pre) (sym (accepted c))
+resting-requires c κs = c .before .refused .ensures .within (c .if1 .left)
 
 with-requires : tie.Need-with-requires
 with-requires c κs = search needs
@@ -40,8 +29,10 @@ unfolding number
 returns-2 c =
     let i = c .before in
     let r = i .before .before in
-    let k = r .before .before .before .pre in
-    rw (c .with .ensures) (changes-now k (r .resting .ensures) (accepted (r .before)) (i .if2 .taken))
+    let b = r .before in
+    let e = b .before .refused .ensures .number in
+    rw (c .with .ensures)
+    (changes-now (b .before .before .pre) (r .resting .ensures) e (b .if1 .left) (i .if2 .taken))
 
 with-requires-2 : tie.Need-with-requires-2
 with-requires-2 c κs = search needs
@@ -51,8 +42,10 @@ unfolding number
 returns-3 c =
     let i = c .before .before in
     let r = i .before .before in
-    let k = r .before .before .before .pre in
-    rw (c .with2 .ensures) (changes-later k (r .resting .ensures) (accepted (r .before)) (i .if2 .left))
+    let b = r .before in
+    let e = b .before .refused .ensures .number in
+    rw (c .with2 .ensures)
+    (changes-later (b .before .before .pre) (r .resting .ensures) e (b .if1 .left) (i .if2 .left))
 
 pub announce-spec : {M : Type 1} → statement M
 announce-spec =

@@ -1,11 +1,8 @@
 -- `voice::change::instant` meets its contract: a resting eliminator, run over the line, is put in force.
 -- Assumes nothing.
-use mathlib.Core.Path.{_≡_, sym, _∙_}
 use borrow.Author.Needs.{needs}
-use Rattle.refusal.specs.Limits.{refusal}
-use Rattle.rule.specs.Calls.{instant, changeLimits, number}
+use Rattle.rule.specs.Calls.{instant, number}
 use Rattle.voice.specs.Struct.{voiceOf}
-use Rattle.voice.proofs.Refusals.{change-tunes}
 use Rattle.voice.proofs.Called.{called-refused, on}
 use Rattle.voice.proofs.Changes.{changes-instantly, count-refused, count-accepted}
 use Rattle.voice.proofs.change.instant.Statement.{statement}
@@ -19,21 +16,14 @@ unfolding number
 returns c =
     let s = c .before .before in
     let a = s .args in
-    let e = c .before .refused .ensures in
+    let e = c .before .refused .ensures .number in
     let k = called-refused (a .head) (instant (a .length) (a .delay)) (s .pre .fit) e (c .if1 .taken) in (
       on (a .line .now) k (s .pre .line),
-      count-refused (voiceOf (a .head)) (a .length) (a .delay) (λ z. c .if1 .taken (e ∙ z)),
+      count-refused (voiceOf (a .head)) (a .length) (a .delay) e (c .if1 .taken),
     )
 
-accepted : (c : tie.Else1)
-    → let a = c .before .before .args in 0 ≡ refusal (changeLimits (voiceOf (a .head)) (a .length) (a .delay))
-accepted c = sym (c .if1 .left) ∙ c .before .refused .ensures
-
 resting-requires : tie.Need-resting-requires
-resting-requires c κs =
-    let s = c .before .before in
-    let a = s .args in
-    change-tunes (a .head) (a .length) (a .delay) (s .pre .fit) (sym (accepted c))
+resting-requires c κs = c .before .refused .ensures .within (c .if1 .left)
 
 prepared-requires : tie.Need-prepared-requires
 prepared-requires c κs = search needs
@@ -46,12 +36,15 @@ unfolding number
 returns-2 c =
     let p = c .before in
     let r = p .before in
-    let s = r .before .before .before in
+    let b = r .before in
+    let s = b .before .before in
     let a = s .args in
-    let n = accepted (r .before) in
-    let h = changes-instantly (s .pre .fit) (r .resting .ensures) (a .line .now) (s .pre .line) n in (
-      rw (c .with .ensures) (h (p .prepared .ensures)),
-      count-accepted (voiceOf (a .head)) (a .length) (a .delay) n,
+    let e = b .before .refused .ensures .number in
+    let z = b .if1 .left in
+    let ran = p .prepared .ensures in (
+      rw (c .with .ensures)
+          (changes-instantly (s .pre .fit) (r .resting .ensures) (a .line .now) (s .pre .line) e z ran),
+      count-accepted (voiceOf (a .head)) (a .length) (a .delay) e z,
     )
 
 pub instant-spec : {M : Type 1} → statement M

@@ -31,7 +31,7 @@ returns c =
     let b = c .before in
     record {
       number = b .before .refused .ensures;
-      state = c .fresh .ensures .0 ∙ sym (opened-refused (asked (b .before .before)) (turned-down b));
+      state = rw (opened-refused (asked (b .before .before)) (turned-down b)) (c .fresh .ensures .0);
       valid = c .fresh .ensures .1;
     }
 
@@ -43,7 +43,7 @@ returns-2 c =
     let b = c .before in
     record {
       number = sym (taken b);
-      state = c .fresh2 .ensures .0 ∙ sym (opened-taken (asked (b .before .before)) (taken b));
+      state = rw (opened-taken (asked (b .before .before)) (taken b)) (c .fresh2 .ensures .0);
       valid = c .fresh2 .ensures .1;
     }
 
