@@ -1,0 +1,54 @@
+-- The calls of each kind, and what a call puts over the front of a lent output.
+-- Assumes nothing.
+use mathlib.Core.Path.{_≡_, refl, sym, ap, ap₂, _∙_}
+use mathlib.Core.Bool.{Bool, true, false, cond}
+use mathlib.Core.List.{List, [], _∷_, _++_}
+use Prim.Native.Nat.{ℕ, zero, suc, _+_, _≤_, _<_}
+use native.Mathlib.Omega.{arith}
+use lib.Dec.{eqb}
+use lib.IntN.{ℤ}
+use lib.ListN.{length, take, drop, take-append-drop}
+use Rattle.rule.specs.Calls.{Call, inputs, number}
+use Rattle.rule.specs.State.{State, told, blockOut, put}
+use Rattle.voice.specs.declared.parts.Head.{Head}
+use Rattle.voice.specs.Struct.{stateOf, voiceOf}
+use Rattle.voice.specs.Called.{lent}
+use Rattle.list.specs.Words.{called}
+use Rattle.list.specs.Performed.{over}
+
+-- a call of another kind than 0 makes no step
+pub still : (kind a b c : ℕ) (xs : List ℤ) → 0 < kind → kind ≤ 4 → inputs (called kind a b c xs) ≡ []
+still zero a b c xs h k = absurd (omega arith)
+still (suc zero) a b c xs h k = refl
+still (suc (suc zero)) a b c xs h k = refl
+still (suc (suc (suc zero))) a b c xs h k = refl
+still (suc (suc (suc (suc zero)))) a b c xs h k = refl
+still (suc (suc (suc (suc (suc n))))) a b c xs h k = absurd (omega arith)
+
+pub put-none : (v : State) (c : Call) → inputs c ≡ [] → put v c ≡ []
+unfolding put
+put-none v c e = go (eqb (number (v .voice) c) 0)
+  where
+    go : (b : Bool) → cond b (blockOut (told v c) (inputs c)) [] ≡ []
+    go true = ap (λ (xs : List ℤ). blockOut (told v c) xs) e
+    go false = refl
+
+pub over-still : (v : State) (kind a b c : ℕ) (xs before : List ℤ) → 0 < kind → kind ≤ 4
+    → before ≡ over (put v (called kind a b c xs)) before
+over-still v kind a b c xs before h k =
+    sym (ap (λ (p : List ℤ). over p before) (put-none v (called kind a b c xs) (still kind a b c xs h k)))
+
+placed : (t : Bool) (p part before : List ℤ) (b : ℕ) → length part ≡ b
+    → part ≡ cond t (cond t p []) (take b before)
+    → part ++ drop b before ≡ over (cond t p []) before
+placed true p part before b e j =
+    ap₂ (λ (x : List ℤ) (n : ℕ). x ++ drop n before) j (sym e ∙ ap length j)
+placed false p part before b e j =
+    ap (λ (x : List ℤ). x ++ drop b before) j ∙ take-append-drop b before
+
+-- a part of the output that was lent to a call, back in its place
+pub over-lent : (h : Head) (l : List ℤ) (c : Call) (b : ℕ) (part before : List ℤ) → length part ≡ b
+    → part ≡ lent h l c (take b before) → part ++ drop b before ≡ over (put (stateOf h l) c) before
+unfolding put
+over-lent h l c b part before e i =
+    placed (eqb (number (voiceOf h) c) 0) (blockOut (told (stateOf h l) c) (inputs c)) part before b e i

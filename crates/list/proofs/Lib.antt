@@ -1,0 +1,7 @@
+pub mod Calling
+pub mod Clicks
+pub mod Form
+pub mod Over
+pub mod Put
+pub mod Running
+pub mod Whole

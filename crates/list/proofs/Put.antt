@@ -1,0 +1,50 @@
+-- How many samples a call puts out: as many as a block lends where it is accepted, else none.
+-- Assumes nothing.
+use mathlib.Core.Path.{_≡_, refl, sym, ap, _∙_}
+use mathlib.Core.Bool.{Bool, true, false, cond}
+use mathlib.Core.List.{List, [], _∷_}
+use Prim.Native.Nat.{ℕ, zero, suc, _≤_, _<_}
+use native.Mathlib.Omega.{arith}
+use borrow.Author.Tests.{eqb-true, ne-eqb}
+use lib.Dec.{eqb}
+use lib.IntN.{ℤ}
+use lib.ListN.{length, take}
+use Rattle.refusal.specs.Returned.{AllKept, more, none}
+use Rattle.refusal.proofs.Returned.{returned}
+use Rattle.rule.specs.Voice.{Voice}
+use Rattle.rule.specs.Calls.{Call, block, limits, number, inputs}
+use Rattle.rule.specs.State.{State, step, told, blockOut, put}
+use Rattle.list.specs.Words.{called, lends}
+use Rattle.list.proofs.Calling.{still, put-none}
+
+length-out : (v : State) (xs : List ℤ) → length (blockOut v xs) ≡ length xs
+length-out v [] = refl
+length-out v (x ∷ xs) = ap suc (length-out (step v x) xs)
+
+-- an accepted block's input and output are as long as each other
+matched : (v : Voice) (xs : List ℤ) (n : ℕ) → number v (block xs n) ≡ 0 → length xs ≡ n
+unfolding number
+matched v xs n e = go (returned (limits v (block xs n)) tt .accepted .0 e)
+  where
+    go : AllKept (limits v (block xs n)) → length xs ≡ n
+    go (more k ks) = omega (arith, k .least, k .most)
+
+-- the number 0, or another, that a call returns decides
+pub put-length : (v : State) (kind a b c : ℕ) (xs : List ℤ) → kind ≤ 4
+    → length (put v (called kind a b c xs)) ≡ cond (eqb (number (v .voice) (called kind a b c xs)) 0) (lends kind b) 0
+unfolding put
+put-length v zero a b c xs h = go (eqb (number (v .voice) k) 0) refl
+  where
+    k : Call
+    k = block (take a xs) b
+
+    go : (t : Bool) → eqb (number (v .voice) k) 0 ≡ t → length (cond t (blockOut (told v k) (inputs k)) []) ≡ cond t b 0
+    go true e = length-out (told v k) (take a xs) ∙ matched (v .voice) (take a xs) b (eqb-true (number (v .voice) k) 0 e)
+    go false e = refl
+put-length v (suc kind) a b c xs h =
+    let k = called (suc kind) a b c xs in
+    ap length (put-none v k (still (suc kind) a b c xs (omega arith) h)) ∙ none-lent kind (eqb (number (v .voice) k) 0)
+  where
+    none-lent : (n : ℕ) (t : Bool) → 0 ≡ cond t (lends (suc n) b) 0
+    none-lent n true = sym (ap (λ (t : Bool). cond t b 0) (ne-eqb (suc n) 0 (λ e. omega arith)))
+    none-lent n false = refl

@@ -1,0 +1,72 @@
+-- `list::perform` meets its contract: the words are tested, and then the calls are made on what Open returned.
+-- Assumes nothing.
+use mathlib.Core.Path.{_≡_, sym, _∙_}
+use mathlib.Core.Bool.{true, false}
+use borrow.Author.Needs.{needs}
+use borrow.Author.Tests.{not-true, not-false}
+use lib.ListN.{length}
+use Rattle.rule.specs.Calls.{Opening}
+use Rattle.voice.specs.Struct.{stateOf}
+use Rattle.list.specs.Words.{formed}
+use Rattle.list.proofs.Whole.{unformed, done}
+use Rattle.list.proofs.perform.Statement.{statement}
+use Rattle.list.proofs.perform.Tie as tie
+
+abbrev opening : tie.Start → Opening
+opening s = record { N = s .args .order; L = s .args .length; d = s .args .delay; G = s .args .loss; Na = s .args .advance }
+
+formed-requires : tie.Need-formed-requires
+formed-requires c κs = search needs
+
+returns : tie.Need-returns
+returns c =
+    let s = c .before .before .before .before in
+    let a = s .args in
+    let f = c .before .formed in
+    unformed (opening s) (a .words .now) (a .input .now) (a .output .now) (a .numbers .now)
+    (sym (f .ensures) ∙ not-true (f .result) (c .if1 .taken))
+
+open-requires : tie.Need-open-requires
+open-requires c κs = search needs
+
+-- in form, where the voice is opened
+in-form : (c : tie.Else1)
+    → formed (c .before .before .before .before .args .words .now) (length (c .before .before .before .before .args .input .now))
+    (length (c .before .before .before .before .args .output .now)) (length (c .before .before .before .before .args .numbers .now))
+    ≡ true
+in-form c = sym (c .before .formed .ensures) ∙ not-false (c .before .formed .result) (c .if1 .left)
+
+run-requires : tie.Need-run-requires
+run-requires c κs =
+    let b = c .before .before .before .before .before .before in
+    (b .«open» .ensures .valid, in-form (b .before))
+
+same-length : tie.Need-same-length
+same-length c = search needs
+
+same-length-2 : tie.Need-same-length-2
+same-length-2 c = search needs
+
+returns-2 : tie.Need-returns-2
+returns-2 c =
+    let m = c .before .before .before in
+    let b = m .before .before .before .before .before .before .before in
+    let s = b .before .before .before .before .before in
+    let a = s .args in
+    let e = b .«open» .ensures in
+    let v = stateOf (b .«open» .result .voice .head) (b .«open» .result .voice .line) in
+    done (opening s) (a .words .now) (a .input .now) (a .output .now) (a .numbers .now) (in-form (b .before)) v
+    (e .state) (b .«open» .result .refusal) (m .run .result) (m .run .last .1 .1 .1 .1 .0)
+    (m .run .last .1 .1 .1 .1 .1 .0) (e .number) (m .run .ensures .0) (m .run .ensures .1 .0) (m .run .ensures .1 .1)
+
+pub perform-spec : {M : Type 1} → statement M
+perform-spec =
+    tie.close
+    (tie.spec
+    formed-requires
+    returns
+    open-requires
+    run-requires
+    same-length
+    same-length-2
+    returns-2)

@@ -1,0 +1,3 @@
+pub mod Words
+pub mod Performed
+pub mod Clicks

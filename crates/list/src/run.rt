@@ -1,0 +1,58 @@
+// The calls of a list, one after the other, each on the voice that the call before it left.
+// What a block puts out follows what the blocks before it put out; a refused block puts out nothing.
+ghost use mathlib.Core.Path.{_≡_};
+ghost use mathlib.Core.Bool.{true};
+ghost use lib.ListN.{length};
+ghost use Rattle.rule.specs.State.{puts, numbers as Numbers};
+ghost use Rattle.voice.specs.Struct.{stateOf};
+ghost use Rattle.voice.specs.Valid.{Valid};
+ghost use Rattle.list.specs.Words.{calls, formed};
+ghost use Rattle.list.specs.Performed.{over};
+use crate::one::one;
+use crate::words::accepted;
+use crate::words::share;
+use voice::parts::Head;
+
+// Makes the calls of words, which are in form, and returns how many samples they put out.
+pub fn run(
+    line: &mut [i32; 2112],
+    head: Head,
+    words: &[u32],
+    input: &[i32],
+    output: &mut [i32],
+    numbers: &mut [u32],
+) -> usize
+    requires { ⌜ Valid head (now line) × (formed (now words) (length (now input)) (length (now output)) (length (now numbers)) ≡ true) ⌝ }
+    ensures { λ r. ⌜ r ≡ length (puts (stateOf head (now (line .entry))) (calls (now (words .entry)) (now (input .entry)))) ⌝ }
+    ensures { λ r. ⌜ now (output .exit) ≡ over (puts (stateOf head (now (line .entry))) (calls (now (words .entry)) (now (input .entry)))) (now (output .entry)) ⌝ }
+    ensures { λ r. ⌜ now (numbers .exit) ≡ over (Numbers (stateOf head (now (line .entry))) (calls (now (words .entry)) (now (input .entry)))) (now (numbers .entry)) ⌝ }
+{
+    let mut h = head;
+    let mut at = 0;
+    let mut used = 0;
+    let mut written = 0;
+    let mut k = 0;
+    while at < words.len() {
+        let kind = words[at];
+        let a = words[at + 1];
+        let b = words[at + 2];
+        let c = words[at + 3];
+        let r = one(
+            line,
+            h,
+            kind,
+            a,
+            b,
+            c,
+            &input[used..],
+            &mut output[written..],
+        );
+        numbers[k] = r.refusal;
+        written = written + accepted(r.refusal, share(kind, b));
+        h = r.head;
+        used = used + share(kind, a);
+        k = k + 1;
+        at = at + 4;
+    }
+    written
+}
