@@ -1,8 +1,8 @@
 -- Demand 3 speaks of every sample: it is exactly the opening filter's, or `click` speaks of it.
 -- Assumes nothing.
 use mathlib.Core.Path.{_≡_, refl, sym, _∙_}
-use mathlib.Core.List.{List}
-use Prim.Native.Nat.{ℕ, _≤_, _<_}
+use mathlib.Core.List.{List, [], _∷_, map}
+use Prim.Native.Nat.{ℕ, _/_, _≤_, _<_}
 use native.Mathlib.Omega.{arith}
 use lib.IntN.{pos}
 use lib.ListN.{getD}
@@ -52,3 +52,13 @@ pub figure-ends :
     × (figure 23 ≡ 3) × (figure 24 ≡ 2) × (figure 25 ≡ 2)
 unfolding figure
 figure-ends = (refl, refl, refl, refl, refl, refl)
+
+-- the figure right after a change took effect, by the advance, in order N: docs/CLICK.md has these as a table
+pub advances : ℕ → List ℕ
+advances N = map (λ Na. figure (Na / N)) (0 ∷ 8 ∷ 16 ∷ 24 ∷ 32 ∷ 48 ∷ 64 ∷ [])
+
+pub figure-advances :
+    (advances 1 ≡ 25165824 ∷ 98304 ∷ 384 ∷ 2 ∷ 2 ∷ 2 ∷ 2 ∷ [])
+    × (advances 2 ≡ 25165824 ∷ 1572864 ∷ 98304 ∷ 6144 ∷ 384 ∷ 2 ∷ 2 ∷ [])
+unfolding figure advances
+figure-advances = (refl, refl)
