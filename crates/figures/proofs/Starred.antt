@@ -8,12 +8,16 @@ use Rattle.allpass.specs.Allpass.{inner, next, out}
 use Rattle.allpass.specs.Length.{response, above, effectiveLength}
 use Rattle.noise.specs.Noise as Noise
 use Rattle.pitch.specs.Pitch.{octave, period, splitL, splitD, pitch}
+use Rattle.rule.specs.Voice.{noise, spent, output, written, settled, stepped}
+use Rattle.rule.specs.Calls.{number, opened, done}
+use Rattle.rule.specs.State.{step, sounds, call, put, silence}
 use Rattle.figures.specs.Starred.{Starred}
 
 pub starred : Starred
 unfolding
     floor nearest R clip factor a coefficient coefficients inner next out response above effectiveLength
     Noise.next Noise.value octave period splitL splitD pitch
+    noise spent output written settled stepped number opened done step sounds call put silence
 starred = record {
   d2049 = refl;
   d4096 = refl;
@@ -23,6 +27,7 @@ starred = record {
   d10240 = refl;
   d8192 = refl;
   allpass = refl;
+  loop = refl;
   draw = refl;
   note1 = refl;
   note2 = refl;

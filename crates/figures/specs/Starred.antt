@@ -4,11 +4,14 @@ use mathlib.Core.Path.{_≡_}
 use mathlib.Core.List.{List, [], _∷_}
 use Prim.Native.Nat.{ℕ, zero, suc}
 use lib.IntN.{ℤ, pos, negsuc}
+use lib.ListN.{replicate}
 use Rattle.thiran.specs.Coefficients.{coefficients}
 use Rattle.allpass.specs.Allpass.{rest, next, out}
 use Rattle.allpass.specs.Length.{effectiveLength}
 use Rattle.noise.specs.Noise as Noise
 use Rattle.pitch.specs.Pitch.{pitch}
+use Rattle.rule.specs.Calls.{block}
+use Rattle.rule.specs.State.{fresh, puts}
 
 -- the outputs of a filter over the inputs fs
 abbrev pub outputs : List ℤ → List ℤ → List ℤ → List ℤ
@@ -34,6 +37,12 @@ pub record Starred : Type 0 where
   pub allpass :
       outputs (coefficients 1 6144) (rest 1) (pos 1000 ∷ pos 0 ∷ pos 0 ∷ pos 0 ∷ [])
       ≡ negsuc 199 ∷ pos 960 ∷ pos 192 ∷ pos 38 ∷ []
+  -- "L 3, d 4,096, G 32,768, input 1,000 then zeros: 0, 0, 0, 0, 1000, 0, 0, 0, 250, 250": of order 1, which
+  -- alone takes this d, and Na 0, since nothing changes
+  pub loop :
+      puts (fresh (record { N = 1; L = 3; d = 4096; G = 32768; Na = 0 }))
+      (block (pos 1000 ∷ replicate 9 (pos 0)) 10 ∷ [])
+      ≡ pos 0 ∷ pos 0 ∷ pos 0 ∷ pos 0 ∷ pos 1000 ∷ pos 0 ∷ pos 0 ∷ pos 0 ∷ pos 250 ∷ pos 250 ∷ []
   -- "Seed 0 draws −17,298, −14,512, 20,940"
   pub draw : draws 3 0 ≡ negsuc 17297 ∷ negsuc 14511 ∷ pos 20940 ∷ []
   -- "Rate 44,100, note 69: order 1 gives 99 and 2,979; order 2 gives 98 and 7,075"

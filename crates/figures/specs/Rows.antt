@@ -1,0 +1,381 @@
+-- Rows from another implementation of document 01: lists of calls and all that they give, as facts about the
+-- definitions. It printed this text; proofs/Rows.antt proves them by computation. Assumes nothing.
+use mathlib.Core.Path.{_≡_}
+use mathlib.Core.List.{List, [], _∷_}
+use mathlib.Core.Option.{none, some}
+use Prim.Native.Nat.{ℕ}
+use lib.IntN.{ℤ, pos, negsuc}
+use lib.ListN.{length, take}
+use Rattle.refusal.specs.Limits.{refusal}
+use Rattle.rule.specs.Voice.{Voice}
+use Rattle.rule.specs.Calls.{Call, block, loss, pluck, announce, instant, Opening, openLimits}
+use Rattle.rule.specs.State as State
+use Rattle.rule.specs.State.{fresh, from, puts}
+
+-- what it gives for an opening and a list of calls: Open's number; the number and the count of each call;
+-- the samples put out; the voice that is left; its line, newest first, back to a zero from before opening
+pub record Answers : Type 0 where
+  pub opening : ℕ
+  pub numbers : List ℕ
+  pub counts : List ℕ
+  pub outputs : List ℤ
+  pub voice : Voice
+  pub line : List ℤ
+
+-- the definitions give the same
+pub record Row (o : Opening) (cs : List Call) (a : Answers) : Type 0 where
+  pub opening : refusal (openLimits o) ≡ a .opening
+  pub numbers : State.numbers (fresh o) cs ≡ a .numbers
+  pub counts : State.counts (fresh o) cs ≡ a .counts
+  pub outputs : puts (fresh o) cs ≡ a .outputs
+  pub voice : from (fresh o) cs .voice ≡ a .voice
+  pub line : take (length (a .line)) (from (fresh o) cs .line) ≡ a .line
+
+abbrev pub opens : List Opening → List ℕ
+opens [] = []
+opens (o ∷ os) = refusal (openLimits o) ∷ opens os
+
+pub record Rows : Type 0 where
+  -- what Open returns on both sides of each limit, and where several are passed
+  pub openings :
+      opens
+      (record { N = 0; L = 0; d = 0; G = 65536; Na = 65 }
+      ∷ record { N = 3; L = 1; d = 4096; G = 0; Na = 0 }
+      ∷ record { N = 1; L = 0; d = 2048; G = 65536; Na = 65 }
+      ∷ record { N = 2; L = 2049; d = 6145; G = 0; Na = 0 }
+      ∷ record { N = 1; L = 1; d = 2048; G = 65536; Na = 65 }
+      ∷ record { N = 1; L = 2048; d = 6145; G = 0; Na = 0 }
+      ∷ record { N = 2; L = 1; d = 6144; G = 65536; Na = 65 }
+      ∷ record { N = 2; L = 2048; d = 10241; G = 0; Na = 0 }
+      ∷ record { N = 1; L = 1; d = 2049; G = 65536; Na = 65 }
+      ∷ record { N = 2; L = 2048; d = 10240; G = 65535; Na = 65 }
+      ∷ record { N = 1; L = 1; d = 2049; G = 0; Na = 0 }
+      ∷ record { N = 1; L = 2048; d = 6144; G = 65535; Na = 64 }
+      ∷ record { N = 2; L = 1; d = 6145; G = 0; Na = 64 }
+      ∷ record { N = 2; L = 2048; d = 10240; G = 65535; Na = 0 }
+      ∷ [])
+      ≡ 1 ∷ 1 ∷ 2 ∷ 2 ∷ 3 ∷ 3 ∷ 3 ∷ 3 ∷ 4 ∷ 5 ∷ 0 ∷ 0 ∷ 0 ∷ 0 ∷ []
+  -- inputs at ±M: outputs and samples that clip, above and below; refusals 9 and 10
+  pub clips :
+      Row (record { N = 1; L = 1; d = 2049; G = 65535; Na = 0 })
+      (block (pos 8388607 ∷ pos 8388607 ∷ negsuc 8388606 ∷ pos 8388607 ∷ []) 4
+      ∷ block [] 0
+      ∷ block (pos 8388608 ∷ []) 1
+      ∷ block (pos 0 ∷ negsuc 8388607 ∷ []) 2
+      ∷ block (pos 1 ∷ []) 0
+      ∷ block (pos 8388608 ∷ pos 0 ∷ []) 3
+      ∷ block (negsuc 8388606 ∷ negsuc 8388606 ∷ negsuc 8388606 ∷ []) 3
+      ∷ [])
+      (record {
+        opening = 0;
+        numbers = 0 ∷ 0 ∷ 10 ∷ 10 ∷ 9 ∷ 9 ∷ 0 ∷ [];
+        counts = 0 ∷ 0 ∷ 0 ∷ 0 ∷ 0 ∷ 0 ∷ 0 ∷ [];
+        outputs =
+            pos 0 ∷ pos 2794368 ∷ pos 8388607 ∷ pos 4041682 ∷ negsuc 1349180 ∷ pos 6492120
+            ∷ negsuc 8388606 ∷ [];
+        voice = record {
+          tuning = record { N = 1; L = 1; d = 2049 };
+          G = 65535;
+          Na = 0;
+          state = negsuc 2368132 ∷ [];
+          last = negsuc 8388606;
+          waiting = none;
+          pluck = record { amplitude = 0; left = 0; noise = 0 };
+        };
+        line =
+            negsuc 8388606 ∷ negsuc 5817176 ∷ negsuc 7042376 ∷ pos 8388607 ∷ negsuc 2797204
+            ∷ pos 8388607 ∷ pos 8388607 ∷ pos 0 ∷ [];
+      })
+  -- order 2: a change waits over several blocks and takes effect within one, with refusals 2,
+  -- 3 and 6 meanwhile; an instant change where an announced one took effect; one waits at last
+  pub waits :
+      Row (record { N = 2; L = 3; d = 7075; G = 60000; Na = 3 })
+      (block (pos 1000000 ∷ negsuc 1999999 ∷ pos 500000 ∷ pos 7 ∷ []) 4
+      ∷ announce 2 9159
+      ∷ announce 0 6144
+      ∷ instant 2049 7000
+      ∷ announce 2048 6144
+      ∷ instant 1 10241
+      ∷ instant 4 7000
+      ∷ announce 4 7000
+      ∷ block (pos 0 ∷ []) 1
+      ∷ loss 40000
+      ∷ block [] 0
+      ∷ block (negsuc 2 ∷ []) 1
+      ∷ announce 1 10240
+      ∷ block (pos 0 ∷ pos 0 ∷ pos 0 ∷ []) 3
+      ∷ announce 5 6145
+      ∷ block (pos 0 ∷ pos 100000 ∷ pos 0 ∷ []) 3
+      ∷ instant 1 8000
+      ∷ block (pos 0 ∷ pos 0 ∷ []) 2
+      ∷ announce 3 10240
+      ∷ block (pos 5 ∷ pos 0 ∷ []) 2
+      ∷ [])
+      (record {
+        opening = 0;
+        numbers =
+            0 ∷ 0 ∷ 2 ∷ 2 ∷ 3 ∷ 3 ∷ 6 ∷ 6 ∷ 0 ∷ 0 ∷ 0 ∷ 0 ∷ 6 ∷ 0 ∷ 0 ∷ 0 ∷ 0 ∷ 0 ∷ 0 ∷ 0 ∷ [];
+        counts = 0 ∷ 0 ∷ 0 ∷ 0 ∷ 0 ∷ 0 ∷ 0 ∷ 0 ∷ 0 ∷ 0 ∷ 0 ∷ 0 ∷ 0 ∷ 0 ∷ 0 ∷ 0 ∷ 3 ∷ 0 ∷ 0 ∷ 0 ∷ [];
+        outputs =
+            pos 0 ∷ pos 0 ∷ pos 0 ∷ negsuc 19515 ∷ pos 242917 ∷ pos 541319 ∷ negsuc 2003347
+            ∷ pos 54673 ∷ pos 55336 ∷ pos 298677 ∷ negsuc 316292 ∷ negsuc 649792 ∷ pos 111010
+            ∷ pos 82507 ∷ negsuc 302467 ∷ negsuc 152370 ∷ [];
+        voice = record {
+          tuning = record { N = 2; L = 1; d = 8000 };
+          G = 40000;
+          Na = 3;
+          state = negsuc 69708 ∷ pos 62828 ∷ [];
+          last = negsuc 152370;
+          waiting = some (record {
+            tuning = record { N = 2; L = 3; d = 10240 };
+            taken = 2;
+            state = negsuc 248661 ∷ negsuc 294825 ∷ [];
+          });
+          pluck = record { amplitude = 0; left = 0; noise = 0 };
+        };
+        line =
+            negsuc 138805 ∷ negsuc 67121 ∷ pos 59057 ∷ negsuc 164423 ∷ negsuc 294825 ∷ pos 94624
+            ∷ pos 108036 ∷ pos 33572 ∷ negsuc 594687 ∷ negsuc 446175 ∷ pos 239327 ∷ pos 102265
+            ∷ negsuc 8926 ∷ pos 500000 ∷ negsuc 1999999 ∷ pos 1000000 ∷ pos 0 ∷ [];
+      })
+  -- order 1, Na 64: instant changes at step 0 and soon after it; one waits at last
+  pub early :
+      Row (record { N = 1; L = 2; d = 6144; G = 65535; Na = 64 })
+      (instant 2048 2049
+      ∷ instant 2 5000
+      ∷ block (pos 3000000 ∷ negsuc 3999999 ∷ pos 70000 ∷ []) 3
+      ∷ instant 1 2979
+      ∷ block (pos 0 ∷ pos 0 ∷ pos 0 ∷ []) 3
+      ∷ announce 3 5555
+      ∷ block (pos 0 ∷ negsuc 0 ∷ []) 2
+      ∷ [])
+      (record {
+        opening = 0;
+        numbers = 0 ∷ 0 ∷ 0 ∷ 0 ∷ 0 ∷ 0 ∷ 0 ∷ [];
+        counts = 64 ∷ 64 ∷ 0 ∷ 64 ∷ 0 ∷ 0 ∷ 0 ∷ [];
+        outputs =
+            pos 0 ∷ pos 0 ∷ negsuc 298140 ∷ negsuc 4374616 ∷ pos 242741 ∷ negsuc 2700837
+            ∷ negsuc 1833532 ∷ negsuc 1297490 ∷ [];
+        voice = record {
+          tuning = record { N = 1; L = 1; d = 2979 };
+          G = 65535;
+          Na = 64;
+          state = negsuc 2115020 ∷ [];
+          last = negsuc 1297490;
+          waiting = some (record {
+            tuning = record { N = 1; L = 3; d = 5555 };
+            taken = 2;
+            state = negsuc 2419087 ∷ [];
+          });
+          pluck = record { amplitude = 0; left = 0; noise = 0 };
+        };
+        line =
+            negsuc 1565488 ∷ negsuc 2267150 ∷ negsuc 1229029 ∷ negsuc 2065905 ∷ negsuc 2336342
+            ∷ negsuc 79067 ∷ negsuc 3999999 ∷ pos 3000000 ∷ pos 0 ∷ [];
+      })
+  -- order 2, L 2,048: silent up to an instant change that reaches back before step 0
+  pub reaches :
+      Row (record { N = 2; L = 2048; d = 6145; G = 50000; Na = 64 })
+      (block (pos 123456 ∷ negsuc 7654320 ∷ []) 2
+      ∷ instant 1 9159
+      ∷ block (pos 0 ∷ pos 0 ∷ pos 0 ∷ pos 0 ∷ []) 4
+      ∷ [])
+      (record {
+        opening = 0;
+        numbers = 0 ∷ 0 ∷ 0 ∷ [];
+        counts = 0 ∷ 64 ∷ 0 ∷ [];
+        outputs =
+            pos 0 ∷ pos 0 ∷ negsuc 180558 ∷ pos 1212390 ∷ negsuc 7455155 ∷ negsuc 1290546 ∷ [];
+        voice = record {
+          tuning = record { N = 2; L = 1; d = 9159 };
+          G = 50000;
+          Na = 64;
+          state = negsuc 2300281 ∷ pos 383163 ∷ [];
+          last = negsuc 1290546;
+          waiting = none;
+          pluck = record { amplitude = 0; left = 0; noise = 0 };
+        };
+        line =
+            negsuc 3336220 ∷ negsuc 2381425 ∷ pos 393612 ∷ negsuc 68877 ∷ negsuc 7654320
+            ∷ pos 123456 ∷ pos 0 ∷ [];
+      })
+  -- Na 0: announced changes take effect in the call, several at one step; refusal 4; G 0
+  pub at-once :
+      Row (record { N = 2; L = 1; d = 10240; G = 65535; Na = 0 })
+      (block (pos 1000000 ∷ negsuc 1999999 ∷ pos 3000000 ∷ []) 3
+      ∷ announce 2 6145
+      ∷ announce 1 7075
+      ∷ block (pos 0 ∷ pos 0 ∷ pos 0 ∷ []) 3
+      ∷ instant 2048 10240
+      ∷ block (pos 0 ∷ []) 1
+      ∷ announce 1 8000
+      ∷ instant 2 9159
+      ∷ block (pos 0 ∷ pos 0 ∷ []) 2
+      ∷ loss 65536
+      ∷ loss 0
+      ∷ block (pos 0 ∷ pos 0 ∷ negsuc 6 ∷ []) 3
+      ∷ [])
+      (record {
+        opening = 0;
+        numbers = 0 ∷ 0 ∷ 0 ∷ 0 ∷ 0 ∷ 0 ∷ 0 ∷ 0 ∷ 0 ∷ 4 ∷ 0 ∷ 0 ∷ [];
+        counts = 0 ∷ 0 ∷ 0 ∷ 0 ∷ 0 ∷ 0 ∷ 0 ∷ 0 ∷ 0 ∷ 0 ∷ 0 ∷ 0 ∷ [];
+        outputs =
+            pos 0 ∷ pos 47623 ∷ negsuc 366224 ∷ negsuc 55438 ∷ pos 583290 ∷ pos 2675659 ∷ pos 0
+            ∷ pos 34684 ∷ negsuc 204206 ∷ pos 1404094 ∷ pos 1542685 ∷ pos 224906 ∷ [];
+        voice = record {
+          tuning = record { N = 2; L = 2; d = 9159 };
+          G = 0;
+          Na = 0;
+          state = negsuc 17259 ∷ negsuc 87286 ∷ [];
+          last = pos 224906;
+          waiting = none;
+          pluck = record { amplitude = 0; left = 0; noise = 0 };
+        };
+        line =
+            negsuc 6 ∷ pos 0 ∷ pos 0 ∷ negsuc 84759 ∷ pos 17342 ∷ pos 1337809 ∷ pos 1629450
+            ∷ pos 263921 ∷ negsuc 210828 ∷ pos 2840701 ∷ negsuc 1976188 ∷ pos 1000000 ∷ pos 0 ∷ [];
+      })
+  -- refusals 7 and 8; plucks replaced while they sound, one that runs out, one that is left
+  pub plucks :
+      Row (record { N = 1; L = 4; d = 3000; G = 50000; Na = 1 })
+      (pluck 256 0 1
+      ∷ pluck 255 0 1
+      ∷ pluck 255 2049 1
+      ∷ pluck 255 2048 4294967295
+      ∷ block (pos 8388607 ∷ negsuc 8388606 ∷ []) 2
+      ∷ pluck 3 2 9
+      ∷ announce 2 6000
+      ∷ block (pos 0 ∷ pos 0 ∷ pos 0 ∷ []) 3
+      ∷ pluck 0 5 7
+      ∷ block (pos 0 ∷ pos 0 ∷ []) 2
+      ∷ pluck 200 3 0
+      ∷ loss 20000
+      ∷ block (negsuc 8388606 ∷ []) 1
+      ∷ instant 1 3000
+      ∷ block (pos 0 ∷ []) 1
+      ∷ [])
+      (record {
+        opening = 0;
+        numbers = 7 ∷ 8 ∷ 8 ∷ 0 ∷ 0 ∷ 0 ∷ 0 ∷ 0 ∷ 0 ∷ 0 ∷ 0 ∷ 0 ∷ 0 ∷ 0 ∷ 0 ∷ [];
+        counts = 0 ∷ 0 ∷ 0 ∷ 0 ∷ 0 ∷ 0 ∷ 0 ∷ 0 ∷ 0 ∷ 0 ∷ 0 ∷ 0 ∷ 0 ∷ 1 ∷ 0 ∷ [];
+        outputs =
+            pos 0 ∷ pos 0 ∷ pos 0 ∷ pos 5411962 ∷ negsuc 7358343 ∷ negsuc 1813178 ∷ pos 1782938
+            ∷ pos 253535 ∷ negsuc 1306876 ∷ [];
+        voice = record {
+          tuning = record { N = 1; L = 1; d = 3000 };
+          G = 20000;
+          Na = 1;
+          state = negsuc 8386824 ∷ [];
+          last = negsuc 1306876;
+          waiting = none;
+          pluck = record { amplitude = 200; left = 1; noise = 1196435762 };
+        };
+        line =
+            negsuc 3063126 ∷ negsuc 8388606 ∷ negsuc 11535 ∷ negsuc 3498657 ∷ negsuc 742485
+            ∷ pos 1984853 ∷ negsuc 51206 ∷ negsuc 8388606 ∷ pos 3971242 ∷ pos 0 ∷ [];
+      })
+  -- order 1: halves, and sums below zero, in R and in the loop
+  pub halves1 :
+      Row (record { N = 1; L = 1; d = 6144; G = 32768; Na = 0 })
+      (block (negsuc 32767 ∷ negsuc 2 ∷ negsuc 0 ∷ pos 5 ∷ []) 4
+      ∷ block (pos 32768 ∷ pos 0 ∷ pos 0 ∷ []) 3
+      ∷ [])
+      (record {
+        opening = 0;
+        numbers = 0 ∷ 0 ∷ [];
+        counts = 0 ∷ 0 ∷ [];
+        outputs =
+            pos 0 ∷ pos 6554 ∷ negsuc 31783 ∷ negsuc 3459 ∷ negsuc 5238 ∷ negsuc 15971 ∷ pos 28459
+            ∷ [];
+        voice = record {
+          tuning = record { N = 1; L = 1; d = 6144 };
+          G = 32768;
+          Na = 0;
+          state = pos 405 ∷ [];
+          last = pos 28459;
+          waiting = none;
+          pluck = record { amplitude = 0; left = 0; noise = 0 };
+        };
+        line =
+            pos 3122 ∷ negsuc 5302 ∷ pos 30593 ∷ negsuc 8805 ∷ negsuc 6307 ∷ pos 1636
+            ∷ negsuc 32767 ∷ pos 0 ∷ [];
+      })
+  -- the same in order 2
+  pub halves2 :
+      Row (record { N = 2; L = 1; d = 10240; G = 32768; Na = 0 })
+      (block (pos 32768 ∷ pos 0 ∷ negsuc 2 ∷ negsuc 0 ∷ []) 4
+      ∷ block (pos 5 ∷ pos 0 ∷ pos 0 ∷ []) 3
+      ∷ [])
+      (record {
+        opening = 0;
+        numbers = 0 ∷ 0 ∷ [];
+        counts = 0 ∷ 0 ∷ [];
+        outputs =
+            pos 0 ∷ pos 1561 ∷ negsuc 8897 ∷ pos 29953 ∷ pos 10147 ∷ negsuc 1389 ∷ pos 1621 ∷ [];
+        voice = record {
+          tuning = record { N = 2; L = 1; d = 10240 };
+          G = 32768;
+          Na = 0;
+          state = pos 5220 ∷ pos 11380 ∷ [];
+          last = pos 1621;
+          waiting = none;
+          pluck = record { amplitude = 0; left = 0; noise = 0 };
+        };
+        line =
+            pos 58 ∷ pos 2189 ∷ pos 10030 ∷ pos 5263 ∷ negsuc 1836 ∷ pos 390 ∷ pos 32768 ∷ pos 0
+            ∷ [];
+      })
+  -- Open refuses by 5: the calls go to its refusal voice; a pluck runs out at last
+  pub refused5 :
+      Row (record { N = 2; L = 7; d = 9159; G = 60000; Na = 65 })
+      (block (pos 1000 ∷ negsuc 1999 ∷ pos 0 ∷ pos 0 ∷ []) 4
+      ∷ announce 2 9159
+      ∷ announce 2 2979
+      ∷ instant 3 5000
+      ∷ loss 65535
+      ∷ pluck 1 4 0
+      ∷ block (pos 0 ∷ pos 0 ∷ pos 0 ∷ pos 0 ∷ []) 4
+      ∷ [])
+      (record {
+        opening = 5;
+        numbers = 0 ∷ 3 ∷ 0 ∷ 0 ∷ 0 ∷ 0 ∷ 0 ∷ [];
+        counts = 0 ∷ 0 ∷ 0 ∷ 0 ∷ 0 ∷ 0 ∷ 0 ∷ [];
+        outputs =
+            pos 0 ∷ pos 0 ∷ pos 1000 ∷ negsuc 1999 ∷ pos 199 ∷ negsuc 1979 ∷ negsuc 196 ∷ pos 1789
+            ∷ [];
+        voice = record {
+          tuning = record { N = 1; L = 3; d = 5000 };
+          G = 65535;
+          Na = 0;
+          state = negsuc 18199 ∷ [];
+          last = pos 1789;
+          waiting = none;
+          pluck = record { amplitude = 0; left = 0; noise = 0 };
+        };
+        line =
+            pos 11797 ∷ pos 19852 ∷ negsuc 15401 ∷ negsuc 18197 ∷ pos 0 ∷ pos 0 ∷ negsuc 1999
+            ∷ pos 1000 ∷ pos 0 ∷ [];
+      })
+  -- Open refuses by 1, with all numbers outside their limits
+  pub refused1 :
+      Row (record { N = 0; L = 0; d = 0; G = 65536; Na = 65 })
+      (block (pos 8388607 ∷ negsuc 4 ∷ pos 0 ∷ []) 3
+      ∷ pluck 255 1 0
+      ∷ block (pos 0 ∷ []) 1
+      ∷ [])
+      (record {
+        opening = 1;
+        numbers = 0 ∷ 0 ∷ 0 ∷ [];
+        counts = 0 ∷ 0 ∷ 0 ∷ [];
+        outputs = pos 0 ∷ pos 0 ∷ pos 8388607 ∷ negsuc 4 ∷ [];
+        voice = record {
+          tuning = record { N = 1; L = 1; d = 4096 };
+          G = 0;
+          Na = 0;
+          state = pos 0 ∷ [];
+          last = negsuc 4;
+          waiting = none;
+          pluck = record { amplitude = 0; left = 0; noise = 0 };
+        };
+        line = negsuc 4410989 ∷ pos 0 ∷ negsuc 4 ∷ pos 8388607 ∷ pos 0 ∷ [];
+      })

@@ -1,0 +1,132 @@
+//! Random cases with the answers expected: scores for the player, texts for the console.
+
+pub mod field;
+pub mod lines;
+pub mod lists;
+pub mod notes;
+pub mod random;
+pub mod score_fields;
+pub mod scores;
+pub mod text;
+pub mod texts;
+pub mod words;
+
+use crate::call::Call;
+use crate::click::{history, Tally};
+use crate::command::{commands, Command};
+use crate::console::answers;
+use crate::player::play;
+use crate::refusal::number;
+use crate::score::run;
+use crate::voice::Voice;
+use std::fs;
+use std::path::Path;
+
+/// A case: the input, and the output expected.
+pub struct Case {
+    pub input: Vec<u8>,
+    pub output: String,
+}
+
+/// What all the cases of one command reached.
+#[derive(Debug, Default)]
+pub struct Report {
+    /// Answers by refusal number, 0 for success.
+    pub refusals: [u64; 17],
+    /// Lines answered by `error`.
+    pub errors: u64,
+    /// What was compared for demand 3.
+    pub tally: Tally,
+}
+
+/// The lists of calls of a console text with what Open returned: "Opening anew begins another
+/// list. A score run opens a voice of its own".
+fn lists_of(text: &[u8]) -> Vec<(Voice, Vec<Call>)> {
+    let (refused, _) = Voice::open(0, 0, 0, 0, 0);
+    let mut lists = Vec::new();
+    let mut list = (refused, Vec::new());
+    for (_, command) in commands(text) {
+        match command {
+            Some(Command::Open { order, length, delay, loss, advance }) => {
+                let (voice, _) = Voice::open(order, length, delay, loss, advance);
+                lists.push(std::mem::replace(&mut list, (voice, Vec::new())));
+            }
+            Some(Command::Call(call)) => list.1.push(call),
+            Some(Command::Run { places, bytes }) => {
+                let run = run(&bytes, &mut vec![0; places]);
+                lists.extend(run.opened.map(|opened| (opened, run.list)));
+            }
+            _ => {}
+        }
+    }
+    lists.push(list);
+    lists
+}
+
+impl Report {
+    /// Counts the refusal numbers in the answers of the console.
+    fn count_answers(&mut self, printed: &str) {
+        for line in printed.lines() {
+            let mut words = line.split(' ');
+            match words.next() {
+                Some("error") => self.errors += 1,
+                Some("draw" | "state" | "line") | None => {}
+                Some(_) => {
+                    let answer = words.next().and_then(|word| word.parse::<usize>().ok());
+                    self.refusals[answer.expect("an answer has a number")] += 1;
+                }
+            }
+        }
+    }
+
+    /// Demand 3 on each list of calls.
+    fn check_lists(&mut self, lists: Vec<(Voice, Vec<Call>)>) -> Result<(), String> {
+        lists.iter().try_for_each(|(opened, list)| history(opened, list).check(&mut self.tally))
+    }
+
+    /// The score of case `index` and what the player must print; demand 3 is checked on its calls.
+    pub fn score(&mut self, seed: u64, index: u64) -> (Case, Result<(), String>) {
+        let input = scores::score(seed, index);
+        let (output, run) = play(&input);
+        self.refusals[number(&run.answer) as usize] += 1;
+        let lists = run.opened.map(|opened| (opened, run.list)).into_iter().collect();
+        let checked = self.check_lists(lists);
+        (Case { input, output }, checked.map_err(|message| format!("score {index:05}: {message}")))
+    }
+
+    /// The console text of case `index` and what the console must print; demand 3 is checked on
+    /// each list of calls in it.
+    pub fn text(&mut self, seed: u64, index: u64) -> (Case, Result<(), String>) {
+        let input = texts::text(seed, index);
+        let output = answers(&input);
+        self.count_answers(&output);
+        let checked = self.check_lists(lists_of(&input));
+        (Case { input, output }, checked.map_err(|message| format!("text {index:05}: {message}")))
+    }
+}
+
+/// Writes a case as DIR/NNNNN.in and DIR/NNNNN.out.
+fn write_case(dir: &Path, index: u64, case: &Case) -> Result<(), String> {
+    let write = |suffix: &str, bytes: &[u8]| {
+        let path = dir.join(format!("{index:05}.{suffix}"));
+        fs::write(&path, bytes).map_err(|error| format!("{}: {error}", path.display()))
+    };
+    write("in", &case.input)?;
+    write("out", case.output.as_bytes())
+}
+
+/// Makes and writes `count` cases. A case that fails demand 3 ends the writing.
+pub fn write_cases(
+    count: u64,
+    dir: &Path,
+    mut make: impl FnMut(&mut Report, u64) -> (Case, Result<(), String>),
+) -> Result<Report, String> {
+    fs::create_dir_all(dir).map_err(|error| format!("{}: {error}", dir.display()))?;
+    let mut report = Report::default();
+    for index in 0..count {
+        let (case, checked) = make(&mut report, index);
+        write_case(dir, index, &case)?;
+        checked?;
+    }
+    Ok(report)
+}

@@ -1,0 +1,34 @@
+//! Random console texts.
+
+use super::random::Random;
+use super::{lines, lists, words};
+
+/// The number of kinds of text; case `index` has the kind `index` modulo this.
+const KINDS: u64 = 20;
+
+/// The console text of case `index`.
+pub fn text(seed: u64, index: u64) -> Vec<u8> {
+    let mut random = Random::new(seed, index);
+    match index % KINDS {
+        0..=4 => lists::any_list(random, 0).bytes(),
+        5..=7 => lists::any_list(random, 8).bytes(),
+        8 => {
+            let mut bytes = lists::any_list(random.clone(), 40).bytes();
+            bytes.truncate(random.below(bytes.len() as u64) as usize);
+            bytes
+        }
+        9..=10 => lists::waiting(random).bytes(),
+        11 => lists::early(random).bytes(),
+        12 => lists::replaced(random).bytes(),
+        13 => lists::long(random).bytes(),
+        14 => lines::routines(random).bytes(),
+        15 => lines::records(random).bytes(),
+        16 => lines::runs(random).bytes(),
+        17 => lines::full_runs(random).bytes(),
+        18 => {
+            let cut = random.one_in(4);
+            lines::broken(random, cut)
+        }
+        _ => words::words(random).bytes(),
+    }
+}

@@ -1,0 +1,49 @@
+//! Console texts about the form of the lines: words, numbers, comments and limits.
+
+use super::random::Random;
+use super::text::Text;
+
+/// Lines right and wrong.
+#[rustfmt::skip]
+const LINES: &[&str] = &[
+    "open 1 3 4096 32768 0", "open 1 3 4096 32768", "open 1 3 4096 32768 0 0", "open", "OPEN 1 3 4096 0 0",
+    "open +1 3 4096 32768 0", "open -1 3 4096 0 0", "open 01 0003 4096 32768 0000000000000000000000",
+    "\topen\t2  3 8192 65535 64 \t", "open 1 3 4096 32768 0 # 1", "open 1 3 4096 32768 0# 1",
+    "# open 1 3 4096 32768 0", "", "   ", "\t", "openly 1 3 4096 32768 0", "open 1 3 4096 32768 4294967296",
+    "open 1 3 4096 32768 4294967295", "open #", "loss 0x10", "loss 1.0", "loss 1,000", "loss", "loss 1 2",
+    "loss 65535", "loss 65536", "pluck 1 1", "pluck 1 9 4294967295", "pluck 1 1 4294967296",
+    "pluck 1 1 99999999999999999999999999999999999999999", "pluck 255 2048 7", "pluck 256 2049 7",
+    "announce 3", "announce 3 4096 1", "announce 2 4100", "instant 3", "instant", "instant 2 4100",
+    "block", "block 0", "block 2", "block -1", "block 1 -0", "block 1 -", "block 1 --1", "block 1 +1",
+    "block 1 0-1", "block 1 -001000", "block 1 2147483647", "block 1 2147483648", "block 1 -2147483648",
+    "block 1 -2147483649", "block 1 8388607", "block 1 -8388607", "block 1 8388608", "block 1 -8388608",
+    "block 4097 0", "block 4096 0", "block 5 9 9 9 9 9", "block 4 9 9 9 9 9", "block 6 9 9 9 9 9",
+    "coefficients 1", "coefficients 1 4096 0", "coefficients 2 6145", "length 1 4096", "length 2 9159 1000",
+    "note 1 44100", "note 1 44100 69 0", "note 1 44100 69", "draw", "draw -1", "draw 0", "draw 4294967295",
+    "draw 4294967296", "record", "record 0", "record 000", "record 0 0", "record 0g", "record 1f",
+    "record 00 00", "record 01 aB Cd 11", "record +1", "record -1", "run", "run 0", "run 3", "run 16385",
+    "run 16384", "run -1", "run 3 01 00 03 00 00 10 00 80 01 03 00", "run 3 1 0 3 0 0 10 0 80",
+    "run 3 01 00 03 00 00 10 00 80 # 01", "run 2 02 40 ff 07 01 18 FF ff 00", "state 1", "state", "state#",
+    "line", "line 2112", "line 2113", "line 0", "line 1 2", "line -1", "line 3", "s", "end", "error 1", "77",
+];
+
+/// A block line of so many zeros for so many places.
+fn zeros(places: usize, count: usize) -> String {
+    format!("block {places}{}", " 0".repeat(count))
+}
+
+/// Random lines of the table; some texts have blocks at the limit of 4,096 samples.
+pub fn words(random: Random) -> Text {
+    let mut text = Text::new(random, 0, false);
+    for _ in 0..40 {
+        let line = text.random.pick(LINES);
+        text.line(line.to_string());
+    }
+    if text.random.one_in(4) {
+        for (places, count) in [(4_096, 4_096), (4_096, 4_097), (4_097, 4_096), (4_095, 4_096)] {
+            text.line(zeros(places, count));
+        }
+        text.inspect();
+    }
+    text
+}

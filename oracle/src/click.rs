@@ -1,0 +1,124 @@
+//! Section "The click figure": demand 3, checked on a list of calls.
+
+use crate::allpass::Allpass;
+use crate::call::Call;
+use crate::voice::{s_at, Voice};
+
+/// An accepted change to L' and d' with e, the step before which it takes effect.
+#[derive(Clone, Debug)]
+pub struct Change {
+    pub length: u32,
+    pub delay: u32,
+    pub effect: usize,
+}
+
+/// A list of calls made from what Open returned: N, Na, every s(n), the samples y(m) that the
+/// blocks wrote, and the accepted changes in the order called.
+#[derive(Clone, Debug)]
+pub struct History {
+    pub order: u32,
+    pub advance: u32,
+    pub s: Vec<i128>,
+    pub y: Vec<i128>,
+    pub changes: Vec<Change>,
+}
+
+/// How much was compared: changes with at least one step, their steps, the steps at which
+/// equality was claimed, and the steps at which y and the new filter differed.
+#[derive(Clone, Copy, Debug, Default)]
+pub struct Tally {
+    pub changes: u64,
+    pub steps: u64,
+    pub equal: u64,
+    pub differing: u64,
+}
+
+/// The greatest difference allowed: with k = floor((Na + j)/N), 3·2^(23 − k) where k is at most
+/// 23, and 2 where k is larger.
+pub fn figure(order: u32, advance: u32, j: usize) -> i128 {
+    let k = (advance as usize + j) / order as usize;
+    if k <= 23 {
+        3 << (23 - k)
+    } else {
+        2
+    }
+}
+
+/// "s is worked out by the sample rule from what Open returned and the list alone". "An accepted
+/// change called before step c takes effect before step e, where e is c + Na if it is announced and
+/// c if it is instant."
+pub fn history(opened: &Voice, list: &[Call]) -> History {
+    let mut voice = opened.clone();
+    let (mut y, mut changes) = (Vec::new(), Vec::new());
+    for call in list {
+        let c = voice.s.len();
+        let made = call.make(&mut voice);
+        if made.answer.is_err() {
+            continue;
+        }
+        match call {
+            Call::Announced { length, delay } => {
+                let effect = c + voice.advance as usize;
+                changes.push(Change { length: *length, delay: *delay, effect });
+            }
+            Call::Instant { length, delay } => {
+                changes.push(Change { length: *length, delay: *delay, effect: c });
+            }
+            Call::Block { .. } => y.extend(made.output.iter().map(|sample| i128::from(*sample))),
+            Call::Loss { .. } | Call::Pluck { .. } => {}
+        }
+    }
+    History { order: voice.order, advance: voice.advance, s: voice.s, y, changes }
+}
+
+impl History {
+    /// "Before the second copy began, the new filter read s(i − L') for i from 0 to e − Na − 1, and
+    /// nothing where e is at most Na." Whether all of that is zero.
+    fn read_zeros(&self, change: &Change) -> bool {
+        let steps = change.effect.saturating_sub(self.advance as usize);
+        let length = i128::from(change.length);
+        (0..steps as i128).all(|i| s_at(&self.s, i - length) == 0)
+    }
+
+    /// "The new filter has the change's L' and d', is at rest before step 0 and takes s(m − L') at
+    /// every step m from 0. What is compared is y at step m". From e to before step `end`.
+    fn compare(&self, change: &Change, end: usize, tally: &mut Tally) -> Result<(), String> {
+        let equal = self.read_zeros(change);
+        let mut new_filter = Allpass::at_rest(self.order, change.delay);
+        for m in 0..end {
+            let new = new_filter.filter(s_at(&self.s, m as i128 - i128::from(change.length)));
+            if m < change.effect {
+                continue;
+            }
+            let allowed = match equal {
+                true => 0,
+                false => figure(self.order, self.advance, m - change.effect),
+            };
+            let difference = (self.y[m] - new).abs();
+            if difference > allowed {
+                let (length, delay, e) = (change.length, change.delay, change.effect);
+                return Err(format!(
+                    "change to L {length}, d {delay} with e {e}: at step {m} y is {}, the new \
+                     filter gives {new}, allowed is {allowed}",
+                    self.y[m]
+                ));
+            }
+            tally.steps += 1;
+            tally.equal += u64::from(equal);
+            tally.differing += u64::from(difference > 0);
+        }
+        tally.changes += u64::from(change.effect < end);
+        Ok(())
+    }
+
+    /// Demand 3 for every change, from its effect to before the next one's. "Where two have the
+    /// same e, the one called later is in force": the earlier one has no step. No change is
+    /// accepted while another waits, so that e never falls along the list.
+    pub fn check(&self, tally: &mut Tally) -> Result<(), String> {
+        for (index, change) in self.changes.iter().enumerate() {
+            let next = self.changes.get(index + 1).map_or(self.y.len(), |next| next.effect);
+            self.compare(change, next.min(self.y.len()), tally)?;
+        }
+        Ok(())
+    }
+}

@@ -1,0 +1,148 @@
+//! The text console: one answer to each line, on one voice that it keeps.
+
+use crate::allpass::effective_length;
+use crate::call::{Call, UNTOUCHED};
+use crate::command::{commands, Command};
+use crate::noise::draw;
+use crate::note::note;
+use crate::record::read_record;
+use crate::refusal::number;
+use crate::score::run;
+use crate::thiran::coefficients;
+use crate::voice::{s_at, Voice};
+use std::fmt::Display;
+
+/// The console with the voice that it keeps.
+pub struct Console {
+    voice: Voice,
+}
+
+/// A name and numbers, separated by single spaces.
+fn join<T: Display>(name: &str, values: impl IntoIterator<Item = T>) -> String {
+    let mut text = name.to_string();
+    for value in values {
+        text.push(' ');
+        text.push_str(&value.to_string());
+    }
+    text
+}
+
+/// The first two entries of a filter state, 0 where the order has fewer.
+fn two(state: &[i128]) -> [i128; 2] {
+    [0, 1].map(|index| state.get(index).copied().unwrap_or(0))
+}
+
+/// `record R MAP WAIT L D G AMPLITUDE COUNT SEED REST`
+fn answer_record(bytes: &[u8]) -> String {
+    let (answer, record, rest) = read_record(bytes);
+    let fields = record.fields.map(|field| field.to_string()).join(" ");
+    format!("record {} {} {fields} {}", number(&answer), record.map, rest.len())
+}
+
+/// `run R PLACE WRITTEN Y1 ..`
+fn answer_run(places: usize, bytes: &[u8]) -> String {
+    let mut output = vec![UNTOUCHED; places];
+    let run = run(bytes, &mut output);
+    let start = format!("run {} {} {}", number(&run.answer), run.place, run.written);
+    join(&start, output)
+}
+
+impl Default for Console {
+    /// "before the first `open` it is Open's refusal voice".
+    fn default() -> Console {
+        let (voice, _) = Voice::open(0, 0, 0, 0, 0);
+        Console { voice }
+    }
+}
+
+impl Console {
+    /// `state N L D G NA LAST V1 V2 WAITS L' D' TAKEN E1 E2 AMPLITUDE LEFT NOISE`
+    fn answer_state(&self) -> String {
+        let voice = &self.voice;
+        let mut values =
+            [voice.order, voice.tuning.length, voice.tuning.delay].map(i128::from).to_vec();
+        values.extend([voice.loss, voice.advance].map(i128::from));
+        values.push(voice.last_output());
+        values.extend(two(voice.tuning.filter.state()));
+        match &voice.waiting {
+            Some(change) => {
+                values.extend([1, change.tuning.length, change.tuning.delay].map(i128::from));
+                values.push(i128::from(change.taken));
+                values.extend(two(change.tuning.filter.state()));
+            }
+            None => values.extend([0; 6]),
+        }
+        match voice.pluck.left {
+            0 => values.extend([0; 3]),
+            left => values.extend([voice.pluck.amplitude, left, voice.pluck.noise].map(i128::from)),
+        }
+        join("state", values)
+    }
+
+    /// `line s(n-1) .. s(n-K)`
+    fn answer_line(&self, count: usize) -> String {
+        let n = self.voice.s.len() as i128;
+        join("line", (1..=count as i128).map(|k| s_at(&self.voice.s, n - k)))
+    }
+
+    /// The answer to a call on the kept voice.
+    fn answer_call(&mut self, call: &Call) -> String {
+        let made = call.make(&mut self.voice);
+        let answer = number(&made.answer);
+        match call {
+            Call::Loss { .. } => format!("loss {answer}"),
+            Call::Pluck { .. } => format!("pluck {answer}"),
+            Call::Announced { .. } => format!("announce {answer}"),
+            Call::Instant { .. } => format!("instant {answer} {}", made.count),
+            Call::Block { .. } => join(&format!("block {answer}"), made.output),
+        }
+    }
+
+    /// The answer to one command.
+    pub fn answer(&mut self, command: &Command) -> String {
+        match command {
+            Command::Open { order, length, delay, loss, advance } => {
+                let (voice, answer) = Voice::open(*order, *length, *delay, *loss, *advance);
+                self.voice = voice;
+                format!("open {}", number(&answer))
+            }
+            Command::Call(call) => self.answer_call(call),
+            Command::Coefficients { order, delay } => {
+                let (answer, values) = coefficients(*order, *delay);
+                join(&format!("coefficients {}", number(&answer)), values)
+            }
+            Command::Length { order, delay, threshold } => {
+                let (answer, count) = effective_length(*order, *delay, *threshold);
+                format!("length {} {count}", number(&answer))
+            }
+            Command::Note { order, rate, note: m } => {
+                let (answer, values) = note(*order, *rate, *m);
+                join(&format!("note {}", number(&answer)), values)
+            }
+            Command::Draw { state } => {
+                let mut state = *state;
+                let value = draw(&mut state);
+                format!("draw {value} {state}")
+            }
+            Command::Record { bytes } => answer_record(bytes),
+            Command::Run { places, bytes } => answer_run(*places, bytes),
+            Command::State => self.answer_state(),
+            Command::Line { count } => self.answer_line(*count),
+        }
+    }
+}
+
+/// What the console prints for a text: one answer to each line that is not empty, `error LINE` for
+/// a line that is no command.
+pub fn answers(text: &[u8]) -> String {
+    let mut console = Console::default();
+    let mut printed = String::new();
+    for (line, command) in commands(text) {
+        match command {
+            Some(command) => printed.push_str(&console.answer(&command)),
+            None => printed.push_str(&format!("error {line}")),
+        }
+        printed.push('\n');
+    }
+    printed
+}

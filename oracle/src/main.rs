@@ -1,0 +1,103 @@
+//! The commands: player, console, figures, rows, scores and calls.
+
+use oracle::cases::{write_cases, Report};
+use oracle::console::answers;
+use oracle::figures::figures;
+use oracle::player::{play, SCORE_BYTES};
+use oracle::rows::rows;
+use std::io::{self, Read, Write};
+use std::path::Path;
+use std::process::ExitCode;
+
+const USAGE: &str = "oracle player < score
+oracle console < text
+oracle figures
+oracle rows
+oracle scores SEED COUNT DIR
+oracle calls SEED COUNT DIR";
+
+/// Standard input up to a number of bytes.
+fn read_input(limit: u64) -> io::Result<Vec<u8>> {
+    let mut bytes = Vec::new();
+    io::stdin().lock().take(limit).read_to_end(&mut bytes)?;
+    Ok(bytes)
+}
+
+/// Prints a text.
+fn print(text: &str) -> Result<(), String> {
+    let written = io::stdout().lock().write_all(text.as_bytes());
+    written.map_err(|error| error.to_string())
+}
+
+/// `player`: prints what the player must print.
+fn player() -> Result<(), String> {
+    let score = read_input(SCORE_BYTES as u64).map_err(|error| error.to_string())?;
+    print(&play(&score).0)
+}
+
+/// `console`: prints what the console must print.
+fn console() -> Result<(), String> {
+    let text = read_input(u64::MAX).map_err(|error| error.to_string())?;
+    print(&answers(&text))
+}
+
+/// `figures`: prints the checked figures; fails where a computed value is not the paper's.
+fn print_figures() -> Result<(), String> {
+    let mut wrong = Vec::new();
+    for figure in figures() {
+        print(&format!("{} = {}\n", figure.name, figure.computed))?;
+        if figure.computed != figure.paper {
+            let (name, computed, paper) = (figure.name, figure.computed, figure.paper);
+            wrong.push(format!("{name}: computed {computed}, the paper has {paper}"));
+        }
+    }
+    match wrong.is_empty() {
+        true => Ok(()),
+        false => Err(wrong.join("\n")),
+    }
+}
+
+/// What the cases reached, one number per line.
+fn print_report(report: &Report) -> Result<(), String> {
+    for (number, count) in report.refusals.iter().enumerate() {
+        print(&format!("answer {number}: {count}\n"))?;
+    }
+    let tally = &report.tally;
+    print(&format!("error lines: {}\n", report.errors))?;
+    print(&format!("demand 3: changes compared {}, steps {}, ", tally.changes, tally.steps))?;
+    print(&format!("equality claimed at {}, difference at {}\n", tally.equal, tally.differing))
+}
+
+/// `scores` and `calls`: writes the cases.
+fn make_cases(kind: &str, seed: &str, count: &str, dir: &str) -> Result<(), String> {
+    let whole = |word: &str| word.parse::<u64>().map_err(|_| format!("not a number: {word}"));
+    let (seed, count, dir) = (whole(seed)?, whole(count)?, Path::new(dir));
+    let report = match kind {
+        "scores" => write_cases(count, dir, |report, index| report.score(seed, index))?,
+        _ => write_cases(count, dir, |report, index| report.text(seed, index))?,
+    };
+    print_report(&report)
+}
+
+fn main() -> ExitCode {
+    let arguments: Vec<String> = std::env::args().skip(1).collect();
+    let words: Vec<&str> = arguments.iter().map(String::as_str).collect();
+    let done = match words[..] {
+        ["player"] => player(),
+        ["console"] => console(),
+        ["figures"] => print_figures(),
+        ["rows"] => print(&rows()),
+        [kind @ ("scores" | "calls"), seed, count, dir] => make_cases(kind, seed, count, dir),
+        _ => {
+            eprintln!("{USAGE}");
+            return ExitCode::from(2);
+        }
+    };
+    match done {
+        Ok(()) => ExitCode::SUCCESS,
+        Err(message) => {
+            eprintln!("{message}");
+            ExitCode::from(1)
+        }
+    }
+}

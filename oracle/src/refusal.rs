@@ -1,0 +1,58 @@
+//! The refusals of document 01, section "What each call turns down".
+
+/// A refusal; its number is the one that the paper gives it.
+#[derive(Clone, Copy, Debug, PartialEq, Eq)]
+pub enum Refusal {
+    /// "1 order ... outside the limits"
+    Order = 1,
+    /// "2 L ... outside the limits"
+    Length = 2,
+    /// "3 d ... outside the limits"
+    Delay = 3,
+    /// "4 G ... outside the limits"
+    Loss = 4,
+    /// "5 Na outside the limits"
+    Advance = 5,
+    /// "6 a change waits"
+    ChangeWaits = 6,
+    /// "7 amplitude above 255"
+    Amplitude = 7,
+    /// "8 count 0 or above 2,048"
+    Count = 8,
+    /// "9 input and output differ in length"
+    BlockLengths = 9,
+    /// "10 an input outside −M to M"
+    Input = 10,
+    /// "11 rate outside 8,000 to 192,000"
+    Rate = 11,
+    /// "12 note above 127"
+    Note = 12,
+    /// "13 L outside 1 to 2,048"
+    NoteLength = 13,
+    /// "14 the bytes end early"
+    BytesEnd = 14,
+    /// "15 bit 5 or 6 without 4, or bit 7 without 1 or 2"
+    BitMap = 15,
+    /// "16 the wait doesn't fit the output left"
+    Wait = 16,
+}
+
+/// What a call answers besides its values.
+pub type Answer = Result<(), Refusal>;
+
+/// "it gives a number (0 for success)".
+pub fn number<T>(answer: &Result<T, Refusal>) -> u32 {
+    match answer {
+        Ok(_) => 0,
+        Err(refusal) => *refusal as u32,
+    }
+}
+
+/// `Ok` where the condition holds, the refusal where it does not.
+pub fn require(condition: bool, refusal: Refusal) -> Answer {
+    if condition {
+        Ok(())
+    } else {
+        Err(refusal)
+    }
+}

@@ -1,0 +1,105 @@
+//! The lists of the rows, in the words of the console: an opening, then the calls on that voice.
+
+/// A list: the name of its row, what it is there for, the numbers of the opening, and the calls
+/// with a semicolon between them.
+pub struct List {
+    pub name: &'static str,
+    pub about: &'static [&'static str],
+    pub open: &'static str,
+    pub calls: &'static str,
+}
+
+/// Openings on both sides of each limit, and some with several numbers beyond theirs.
+pub const OPENINGS: &[&str] = &[
+    "0 0 0 65536 65",
+    "3 1 4096 0 0",
+    "1 0 2048 65536 65",
+    "2 2049 6145 0 0",
+    "1 1 2048 65536 65",
+    "1 2048 6145 0 0",
+    "2 1 6144 65536 65",
+    "2 2048 10241 0 0",
+    "1 1 2049 65536 65",
+    "2 2048 10240 65535 65",
+    "1 1 2049 0 0",
+    "1 2048 6144 65535 64",
+    "2 1 6145 0 64",
+    "2 2048 10240 65535 0",
+];
+
+pub const LISTS: &[List] = &[
+    List {
+        name: "clips",
+        about: &["inputs at ±M: outputs and samples that clip, above and below; refusals 9 and 10"],
+        open: "1 1 2049 65535 0",
+        calls: "block 4 8388607 8388607 -8388607 8388607; block 0; block 1 8388608;
+            block 2 0 -8388608; block 0 1; block 3 8388608 0; block 3 -8388607 -8388607 -8388607",
+    },
+    List {
+        name: "waits",
+        about: &[
+            "order 2: a change waits over several blocks and takes effect within one, with refusals 2,",
+            "3 and 6 meanwhile; an instant change where an announced one took effect; one waits at last",
+        ],
+        open: "2 3 7075 60000 3",
+        calls: "block 4 1000000 -2000000 500000 7; announce 2 9159; announce 0 6144;
+            instant 2049 7000; announce 2048 6144; instant 1 10241; instant 4 7000; announce 4 7000;
+            block 1 0; loss 40000; block 0; block 1 -3; announce 1 10240; block 3 0 0 0;
+            announce 5 6145; block 3 0 100000 0; instant 1 8000; block 2 0 0; announce 3 10240;
+            block 2 5 0",
+    },
+    List {
+        name: "early",
+        about: &["order 1, Na 64: instant changes at step 0 and soon after it; one waits at last"],
+        open: "1 2 6144 65535 64",
+        calls: "instant 2048 2049; instant 2 5000; block 3 3000000 -4000000 70000; instant 1 2979;
+            block 3 0 0 0; announce 3 5555; block 2 0 -1",
+    },
+    List {
+        name: "reaches",
+        about: &["order 2, L 2,048: silent up to an instant change that reaches back before step 0"],
+        open: "2 2048 6145 50000 64",
+        calls: "block 2 123456 -7654321; instant 1 9159; block 4 0 0 0 0",
+    },
+    List {
+        name: "at-once",
+        about: &["Na 0: announced changes take effect in the call, several at one step; refusal 4; G 0"],
+        open: "2 1 10240 65535 0",
+        calls: "block 3 1000000 -2000000 3000000; announce 2 6145; announce 1 7075; block 3 0 0 0;
+            instant 2048 10240; block 1 0; announce 1 8000; instant 2 9159; block 2 0 0;
+            loss 65536; loss 0; block 3 0 0 -7",
+    },
+    List {
+        name: "plucks",
+        about: &["refusals 7 and 8; plucks replaced while they sound, one that runs out, one that is left"],
+        open: "1 4 3000 50000 1",
+        calls: "pluck 256 0 1; pluck 255 0 1; pluck 255 2049 1; pluck 255 2048 4294967295;
+            block 2 8388607 -8388607; pluck 3 2 9; announce 2 6000; block 3 0 0 0; pluck 0 5 7;
+            block 2 0 0; pluck 200 3 0; loss 20000; block 1 -8388607; instant 1 3000; block 1 0",
+    },
+    List {
+        name: "halves1",
+        about: &["order 1: halves, and sums below zero, in R and in the loop"],
+        open: "1 1 6144 32768 0",
+        calls: "block 4 -32768 -3 -1 5; block 3 32768 0 0",
+    },
+    List {
+        name: "halves2",
+        about: &["the same in order 2"],
+        open: "2 1 10240 32768 0",
+        calls: "block 4 32768 0 -3 -1; block 3 5 0 0",
+    },
+    List {
+        name: "refused5",
+        about: &["Open refuses by 5: the calls go to its refusal voice; a pluck runs out at last"],
+        open: "2 7 9159 60000 65",
+        calls: "block 4 1000 -2000 0 0; announce 2 9159; announce 2 2979; instant 3 5000; loss 65535;
+            pluck 1 4 0; block 4 0 0 0 0",
+    },
+    List {
+        name: "refused1",
+        about: &["Open refuses by 1, with all numbers outside their limits"],
+        open: "0 0 0 65536 65",
+        calls: "block 3 8388607 -5 0; pluck 255 1 0; block 1 0",
+    },
+];

@@ -1,0 +1,65 @@
+//! The rows: what their lists reach, demand 3 on each, and how they are written.
+
+use oracle::click::{history, Tally};
+use oracle::rows::answers::{open, opening, Answers};
+use oracle::rows::lists::{LISTS, OPENINGS};
+use oracle::rows::rows;
+
+/// How often each number up to 10 was returned.
+fn tally(numbers: impl Iterator<Item = u32>) -> [u32; 11] {
+    let mut counts = [0; 11];
+    for number in numbers {
+        counts[number as usize] += 1;
+    }
+    counts
+}
+
+#[test]
+fn every_refusal_of_a_voice_is_reached() {
+    let opened = tally(OPENINGS.iter().map(|words| open(opening(words)).1));
+    assert!(opened[..=5].iter().all(|count| *count > 0), "{opened:?}");
+    let called = tally(LISTS.iter().flat_map(|list| Answers::to(list).numbers));
+    assert!([0, 2, 3, 4, 6, 7, 8, 9, 10].iter().all(|number| called[*number] > 0), "{called:?}");
+}
+
+#[test]
+fn demand_3_holds_on_each_list() {
+    let mut tally = Tally::default();
+    for list in LISTS {
+        let answers = Answers::to(list);
+        let (opened, _) = open(answers.opening);
+        assert_eq!(history(&opened, &answers.calls).check(&mut tally), Ok(()), "{}", list.name);
+    }
+    assert!(tally.equal > 0 && tally.differing > 0, "{tally:?}");
+}
+
+#[test]
+fn a_row_is_written_in_antt() {
+    let text = rows();
+    assert!(text.lines().all(|line| line.chars().count() < 110));
+    let end = "  -- Open refuses by 1, with all numbers outside their limits
+  pub refused1 :
+      Row (record { N = 0; L = 0; d = 0; G = 65536; Na = 65 })
+      (block (pos 8388607 ∷ negsuc 4 ∷ pos 0 ∷ []) 3
+      ∷ pluck 255 1 0
+      ∷ block (pos 0 ∷ []) 1
+      ∷ [])
+      (record {
+        opening = 1;
+        numbers = 0 ∷ 0 ∷ 0 ∷ [];
+        counts = 0 ∷ 0 ∷ 0 ∷ [];
+        outputs = pos 0 ∷ pos 0 ∷ pos 8388607 ∷ negsuc 4 ∷ [];
+        voice = record {
+          tuning = record { N = 1; L = 1; d = 4096 };
+          G = 0;
+          Na = 0;
+          state = pos 0 ∷ [];
+          last = negsuc 4;
+          waiting = none;
+          pluck = record { amplitude = 0; left = 0; noise = 0 };
+        };
+        line = negsuc 4410989 ∷ pos 0 ∷ negsuc 4 ∷ pos 8388607 ∷ pos 0 ∷ [];
+      })
+";
+    assert!(text.ends_with(end));
+}
