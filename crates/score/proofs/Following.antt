@@ -1,0 +1,79 @@
+-- Calls on a head and a line: none, one, and some after others.
+-- Assumes nothing.
+use mathlib.Core.Path.{_≡_, refl, sym, ap, subst, _∙_}
+use mathlib.Core.Bool.{cond}
+use mathlib.Core.List.{List, [], _∷_, _++_}
+use Prim.Native.Nat.{ℕ}
+use borrow.Author.Tests.{eq-eqb, ne-eqb}
+use lib.Dec.{eqb}
+use lib.IntN.{ℤ}
+use Rattle.rule.specs.Calls.{Call, announce, instant}
+use Rattle.rule.specs.State.{State, from}
+use Rattle.voice.specs.declared.parts.Head.{Head}
+use Rattle.voice.specs.declared.parts.Answer.{Answer}
+use Rattle.voice.specs.Struct.{stateOf}
+use Rattle.voice.specs.Valid.{Valid}
+use Rattle.voice.specs.Called.{On}
+use Rattle.score.specs.Run.{stands, lengthTo, delayTo, change, result, then}
+use Rattle.score.specs.Played.{Does}
+use Rattle.score.proofs.Sequence.{from-append, result-past, result-one, then-past, then-stops}
+
+pub does-none : {h : Head} {l : List ℤ} → Valid h l → Does h l [] (record { refusal = 0; head = h }) l
+does-none g = record { number = refl; state = refl; valid = g }
+
+pub does-one : (h : Head) (l : List ℤ) {c : Call} {a : Answer} {k : List ℤ} → On h l c a k → Does h l (c ∷ []) a k
+does-one h l {c} e = record { number = e .number ∙ result-one (stateOf h l) c; state = e .state; valid = e .valid }
+
+module _ (f g : State → List Call) (h : Head) (l : List ℤ) (a : Answer) (k : List ℤ) (d : Does h l (f (stateOf h l)) a k) where
+  v : State
+  v = stateOf h l
+
+  pub does-stops : (a .refusal ≡ 0 → ⊥) → Does h l (then f g (stateOf h l)) a k
+  unfolding v
+  does-stops n =
+      let e : f v ≡ then f g v = then-stops f g v (λ z. n (d .number ∙ z)) in
+      record {
+        number = d .number ∙ ap (λ (cs : List Call). result v cs) e;
+        state = d .state ∙ ap (λ (cs : List Call). from v cs) e;
+        valid = d .valid;
+      }
+
+  module _ (z : a .refusal ≡ 0) (b : Answer) (m : List ℤ) (e : Does (a .head) k (g (stateOf (a .head) k)) b m) where
+    pub does-then : Does h l (then f g (stateOf h l)) b m
+    unfolding v
+    does-then =
+        let r : result v (f v) ≡ 0 = sym (d .number) ∙ z in
+        let w = from v (f v) in
+        let t : f v ++ g w ≡ then f g v = then-past f g v r in
+        record {
+          number =
+              e .number
+              ∙ ap (λ (u : State). result u (g u)) (d .state)
+              ∙ sym (result-past v (f v) (g w) r)
+              ∙ ap (λ (cs : List Call). result v cs) t;
+          state =
+              e .state
+              ∙ ap (λ (u : State). from u (g u)) (d .state)
+              ∙ sym (from-append v (f v) (g w))
+              ∙ ap (λ (cs : List Call). from v cs) t;
+          valid = e .valid;
+        }
+
+-- ---- a part of a record: a call where some bits stand, else none
+module _ (h : Head) (l : List ℤ) (n : ℕ) (c : Call) where
+  pub part-none : Valid h l → n ≡ 0 → Does h l (cond (eqb n 0) [] (c ∷ [])) (record { refusal = 0; head = h }) l
+  part-none g e = rw (eq-eqb n 0 e) (does-none g)
+
+  pub part-one : (n ≡ 0 → ⊥) → {a : Answer} → On h l c a l → Does h l (cond (eqb n 0) [] (c ∷ [])) a l
+  part-one f o = rw (ne-eqb n 0 f) (does-one h l o)
+
+-- a change, announced or instant
+module _ (r : List ℕ) (v : State) {L d : ℕ} (e : L ≡ lengthTo r v) (i : d ≡ delayTo r v) where
+  pub announced : stands r 7 ≡ 0 → announce L d ≡ change r v
+  announced z = rw (e, i, eq-eqb (stands r 7) 0 z)
+
+  pub at-once : (stands r 7 ≡ 0 → ⊥) → instant L d ≡ change r v
+  at-once f = rw (e, i, ne-eqb (stands r 7) 0 f)
+
+pub on-as : {h : Head} {l : List ℤ} {c b : Call} {a : Answer} {k : List ℤ} → On h l c a k → c ≡ b → On h l b a k
+on-as {h} {l} {a} {k} o e = subst (λ (x : Call). On h l x a k) e o

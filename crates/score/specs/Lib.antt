@@ -1,0 +1,4 @@
+pub mod Record
+pub mod Run
+pub mod Played
+pub mod Listed

@@ -1,0 +1,40 @@
+-- What the parts of a run, and the run itself, return and leave: the calls of specs/Run.antt on the voice.
+-- Definitions alone. Assumes nothing.
+use mathlib.Core.Path.{_≡_}
+use mathlib.Core.List.{List, _++_}
+use Prim.Native.Nat.{ℕ}
+use lib.IntN.{ℤ}
+use lib.ListN.{length, drop}
+use Rattle.rule.specs.Calls.{Call}
+use Rattle.rule.specs.State.{State, from, puts, fresh}
+use Rattle.voice.specs.declared.parts.Head.{Head}
+use Rattle.voice.specs.declared.parts.Answer.{Answer}
+use Rattle.voice.specs.Struct.{stateOf}
+use Rattle.voice.specs.Valid.{Valid}
+use Rattle.score.specs.declared.run.Played.{Played}
+use Rattle.score.specs.Run.{Outcome, result, allRecords, opening, run}
+
+-- the calls cs on a head and the line l, which is left as k: the number that ends them, and the voice
+pub record Does (h : Head) (l : List ℤ) (cs : List Call) (r : Answer) (k : List ℤ) : Type 0 where
+  pub number : r .refusal ≡ result (stateOf h l) cs
+  pub state : stateOf (r .head) k ≡ from (stateOf h l) cs
+  pub valid : Valid (r .head) k
+
+-- "Samples already written stand and are counted; the rest of the output is untouched"
+abbrev pub over : List ℤ → List ℤ → List ℤ
+over ys output = ys ++ drop (length ys) output
+
+-- the outcome o of calls on the voice v, on a lent output that is left as after
+pub record Plays (o : Outcome) (v : State) (output : List ℤ) (r : Played) (after : List ℤ) : Type 0 where
+  pub number : r .refusal ≡ o .number
+  pub place : r .place ≡ o .place
+  pub count : r .written ≡ length (puts v (o .calls))
+  pub output-is : after ≡ over (puts v (o .calls)) output
+
+-- the records s on the voice v
+abbrev pub PlaysAll : List ℕ → State → List ℤ → Played → List ℤ → Type 0
+PlaysAll s v output r after = Plays (allRecords v s (length output)) v output r after
+
+-- a whole score s
+abbrev pub Runs : List ℕ → List ℤ → Played → List ℤ → Type 0
+Runs s output r after = Plays (run s (length output)) (fresh (opening s)) output r after
