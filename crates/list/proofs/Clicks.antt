@@ -1,16 +1,15 @@
--- The click figure of what `perform` leaves in the lent output: the samples are those that the list puts out.
+-- The click figure of what `perform` leaves in the lent output: the samples that the list puts out.
 -- Assumes nothing.
-use mathlib.Core.Path.{_≡_, sym, ap, subst, _∙_}
+use mathlib.Core.Path.{_≡_, _∙_}
 use mathlib.Core.Bool.{true}
-use mathlib.Core.List.{List, _++_}
+use mathlib.Core.List.{List}
 use Prim.Native.Nat.{ℕ, _<_}
 use native.Mathlib.Omega.{arith}
 use lib.IntN.{ℤ, pos}
 use lib.ListN.{length, drop, getD, List·getD-append}
-use Rattle.rule.specs.Calls.{Call, Opening}
+use Rattle.rule.specs.Calls.{Opening}
 use Rattle.rule.specs.History.{steps, after}
 use Rattle.rule.specs.State.{fresh, puts}
-use Rattle.rule.specs.Click.{Figure}
 use Rattle.rule.proofs.Agreement.{agrees}
 use Rattle.rule.proofs.Click.{click}
 use Rattle.list.specs.Words.{calls, formed}
@@ -24,9 +23,11 @@ module _ (o : Opening) (ws : List ℕ) (xs : List ℤ) (places : ℕ) (before : 
   unfolding outputAfter
   sample m h =
       let p = puts (fresh o) (calls ws xs) in
-      rw e (List·getD-append p (drop (length p) before) (pos 0) m (omega (arith, agrees o (calls ws xs) .count)))
+      let n = agrees o (calls ws xs) .count in
+      rw e (List·getD-append p (drop (length p) before) (pos 0) m (omega arith))
 
-pub clicks : (o : Opening) (ws : List ℕ) (xs : List ℤ) (places : ℕ) (before : List ℤ) → Clicks o ws xs places before
+pub clicks : (o : Opening) (ws : List ℕ) (xs : List ℤ) (places : ℕ) (before : List ℤ)
+    → Clicks o ws xs places before
 clicks o ws xs places before f pre post c t a e m split change none due short =
     let g = click o (calls ws xs) pre post c t a e m split change none due short in
     let i = sample o ws xs places before f m short in

@@ -1,16 +1,15 @@
 -- Laws of the words of a list of calls: the next call's words, and what is in form with more output left.
 -- Assumes nothing.
 use mathlib.Core.Path.{_≡_, refl, sym, ap, subst, _∙_}
-use mathlib.Core.Bool.{Bool, true, false, cond, _&&_}
+use mathlib.Core.Bool.{Bool, true, false, _&&_}
 use mathlib.Core.List.{List, [], _∷_}
 use Prim.Native.Nat.{ℕ, suc, _+_, _-_, _≤_, _<_}
 use native.Mathlib.Omega.{arith}
 use borrow.Author.Tests.{leb-true, ltb-true, le-leb, lt-ltb}
 use lib.Dec.{T, leb, ltb}
 use lib.IntN.{ℤ}
-use lib.ListN.{length, drop, getD, length-drop}
-use lib.Seq.{drop-cons, drop-length}
-use Rattle.rule.specs.Calls.{Call}
+use lib.ListN.{length, drop, getD, length-drop, drop-of-length-le}
+use lib.Seq.{drop-cons}
 use Rattle.list.specs.Words.{called, takes, lends, calls, fits, formed}
 
 -- ---- the next call
@@ -18,7 +17,8 @@ module _ (ws : List ℕ) (at : ℕ) (h : at + 4 ≤ length ws) where
   abbrev pub word : ℕ → ℕ
   word i = getD ws (at + i) 0
 
-  next : (i j : ℕ) → suc i ≡ at + j → at + j < length ws → drop (suc i) ws ≡ word j ∷ drop (suc (at + j)) ws
+  next : (i j : ℕ) → suc i ≡ at + j → at + j < length ws
+      → drop (suc i) ws ≡ word j ∷ drop (suc (at + j)) ws
   next i j e l = ap (λ (n : ℕ). drop n ws) e ∙ drop-cons ws (at + j) 0 l
 
   four : drop at ws ≡ getD ws at 0 ∷ word 1 ∷ word 2 ∷ word 3 ∷ drop (at + 4) ws
@@ -39,22 +39,23 @@ module _ (ws : List ℕ) (at : ℕ) (h : at + 4 ≤ length ws) where
     abbrev pub fit : Bool
     fit = fits kind (takes kind (word 1)) (lends kind (word 2)) i o n
 
-    pub formed-four : formed (drop at ws) i o n
-        ≡ (fit && formed (drop (at + 4) ws) (i - takes kind (word 1)) (o - lends kind (word 2)) (n - 1))
+    abbrev pub rest : Bool
+    rest = formed (drop (at + 4) ws) (i - takes kind (word 1)) (o - lends kind (word 2)) (n - 1)
+
+    pub formed-four : formed (drop at ws) i o n ≡ (fit && rest)
     unfolding formed
     formed-four = rw four
 
     pub unfit : fit ≡ false → formed (drop at ws) i o n ≡ false
-    unfit e = formed-four ∙ ap (λ (b : Bool). b && formed (drop (at + 4) ws) (i - takes kind (word 1)) (o - lends kind (word 2)) (n - 1)) e
+    unfit e = formed-four ∙ ap (λ (b : Bool). b && rest) e
 
-    pub fitted : fit ≡ true
-        → formed (drop at ws) i o n
-        ≡ formed (drop (at + 4) ws) (i - takes kind (word 1)) (o - lends kind (word 2)) (n - 1)
-    fitted e = formed-four ∙ ap (λ (b : Bool). b && formed (drop (at + 4) ws) (i - takes kind (word 1)) (o - lends kind (word 2)) (n - 1)) e
+    pub fitted : fit ≡ true → formed (drop at ws) i o n ≡ rest
+    fitted e = formed-four ∙ ap (λ (b : Bool). b && rest) e
 
   pub calls-four : (xs : List ℤ)
       → calls (drop at ws) xs
-      ≡ called kind (word 1) (word 2) (word 3) xs ∷ calls (drop (at + 4) ws) (drop (takes kind (word 1)) xs)
+      ≡ called kind (word 1) (word 2) (word 3) xs
+      ∷ calls (drop (at + 4) ws) (drop (takes kind (word 1)) xs)
   unfolding calls
   calls-four xs = rw four
 
@@ -85,9 +86,9 @@ fits-are k t l i o n e =
     }
 
 -- ---- no whole call
-pub formed-none : (ws : List ℕ) (at i o n : ℕ) → length ws ≤ at → at ≤ length ws → formed (drop at ws) i o n ≡ true
+pub formed-none : (ws : List ℕ) (at i o n : ℕ) → length ws ≤ at → formed (drop at ws) i o n ≡ true
 unfolding formed
-formed-none ws at i o n h k = let e : at ≡ length ws = omega arith in rw (e, drop-length ws)
+formed-none ws at i o n h = rw (drop-of-length-le ws h)
 
 short : (ws : List ℕ) (i o n : ℕ) → 0 < length ws → length ws < 4 → formed ws i o n ≡ false
 unfolding formed
@@ -97,8 +98,10 @@ short (a ∷ b ∷ []) i o n h k = refl
 short (a ∷ b ∷ c ∷ []) i o n h k = refl
 short (a ∷ b ∷ c ∷ d ∷ ws) i o n h k = absurd (omega arith)
 
-pub formed-short : (ws : List ℕ) (at i o n : ℕ) → at < length ws → length ws - at < 4 → formed (drop at ws) i o n ≡ false
-formed-short ws at i o n h k = short (drop at ws) i o n (omega (arith, length-drop at ws)) (omega (arith, length-drop at ws))
+pub formed-short : (ws : List ℕ) (at i o n : ℕ) → at < length ws → length ws - at < 4
+    → formed (drop at ws) i o n ≡ false
+formed-short ws at i o n h k =
+    let e = length-drop at ws in short (drop at ws) i o n (omega arith) (omega arith)
 
 -- ---- more output left
 pub formed-more : (ws : List ℕ) (i o p n : ℕ) → o ≤ p → formed ws i o n ≡ true → formed ws i p n ≡ true
@@ -110,6 +113,9 @@ formed-more (k ∷ a ∷ b ∷ []) i o p n h e = e
 formed-more (k ∷ a ∷ b ∷ c ∷ ws) i o p n h e =
     let t = takes k a in
     let l = lends k b in
-    let f = fits-are k t l i o n (and-left (fits k t l i o n) (formed ws (i - t) (o - l) (n - 1)) e) in
-    let r = formed-more ws (i - t) (o - l) (p - l) (n - 1) (omega arith) (and-right (fits k t l i o n) (formed ws (i - t) (o - l) (n - 1)) e) in
-    rw (le-leb k 4 (f .known), le-leb t i (f .input), le-leb l p (omega (arith, f .output)), lt-ltb 0 n (f .place)) r
+    let b = fits k t l i o n in
+    let d = formed ws (i - t) (o - l) (n - 1) in
+    let f = fits-are k t l i o n (and-left b d e) in
+    let r = formed-more ws (i - t) (o - l) (p - l) (n - 1) (omega arith) (and-right b d e) in
+    let g : l ≤ p = omega (arith, f .output) in
+    rw (le-leb k 4 (f .known), le-leb t i (f .input), le-leb l p g, lt-ltb 0 n (f .place)) r

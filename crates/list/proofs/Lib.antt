@@ -4,4 +4,5 @@ pub mod Form
 pub mod Over
 pub mod Put
 pub mod Running
+pub mod Turn
 pub mod Whole

@@ -1,11 +1,11 @@
 -- A slice whose front is written over: more written behind it, at once or one number at a time.
 -- Assumes nothing.
 use mathlib.Core.Path.{_≡_, refl, sym, ap, ap₂, _∙_}
-use mathlib.Core.List.{List, [], _∷_, _++_, append-assoc, append-nil}
-use Prim.Native.Nat.{ℕ, zero, suc, _+_, _≤_, _<_}
+use mathlib.Core.List.{List, [], _∷_, _++_, append-assoc}
+use Prim.Native.Nat.{ℕ, suc, _+_, _≤_, _<_}
 use native.Mathlib.Omega.{arith}
 use lib.ListN.{length, take, drop, set, length-append, length-drop}
-use lib.Seq.{take-at, drop-at, drop-drop, drop-cons, set-split}
+use lib.Seq.{take-at, drop-at, drop-drop, set-split}
 use Rattle.list.specs.Performed.{over}
 
 module _ {X : Type 0} (w before now : List X) (e : now ≡ over w before) where

@@ -1,4 +1,4 @@
--- Demand 3 of the routine `perform`: the click figure holds of the samples that stand in the lent output afterwards, for every
+-- Demand 3 of `perform`: the click figure holds of the samples in the lent output afterwards, for every
 -- opening and every list of calls in words. proofs/Clicks.antt proves it. Assumes nothing.
 use mathlib.Core.Path.{_≡_}
 use mathlib.Core.Bool.{true}
@@ -13,7 +13,7 @@ use Rattle.rule.specs.Click.{Change, NoneBy, Figure}
 use Rattle.list.specs.Words.{calls, formed}
 use Rattle.list.specs.Performed.{outputAfter}
 
--- ws are the words, xs the input, before the lent output as it came, and places how many numbers there is room for
+-- ws are the words, xs the input, before the lent output as it came, and places how many numbers have room
 abbrev pub Clicks : Opening → List ℕ → List ℤ → ℕ → List ℤ → Type 0
 Clicks o ws xs places before =
     formed ws (length xs) (length before) places ≡ true

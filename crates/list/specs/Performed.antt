@@ -1,4 +1,4 @@
--- What performing a list of calls on a fresh voice returns and leaves: demand 3 is then a promise of this routine.
+-- What performing a list of calls on a fresh voice returns and leaves; demand 3 is a promise of it.
 -- Definitions alone. Assumes nothing.
 use mathlib.Core.Path.{_≡_}
 use mathlib.Core.Bool.{cond}
@@ -20,7 +20,11 @@ over xs before = xs ++ drop (length xs) before
 unfoldable pub performed : Opening → List ℕ → List ℤ → ℕ → ℕ → Performed
 performed o ws xs outputs places =
     cond (formed ws (length xs) outputs places)
-    (record { refusal = 0; opening = refusal (openLimits o); written = length (puts (fresh o) (calls ws xs)) })
+    (record {
+      refusal = 0;
+      opening = refusal (openLimits o);
+      written = length (puts (fresh o) (calls ws xs));
+    })
     (record { refusal = 31; opening = 0; written = 0 })
 
 -- the lent output afterwards: what the list puts out, and the rest untouched

@@ -1,5 +1,5 @@
--- A list of calls in words: four for each call, a kind and its numbers. Which words are in this form, and what calls they are.
--- Definitions alone. Assumes nothing.
+-- A list of calls in words, four for each call, a kind and its numbers: which words are in this form, and
+-- what calls they are. Definitions alone. Assumes nothing.
 use mathlib.Core.Bool.{Bool, true, false, cond, _&&_}
 use mathlib.Core.List.{List, [], _∷_}
 use Prim.Native.Nat.{ℕ, _-_}
@@ -8,12 +8,14 @@ use lib.IntN.{ℤ}
 use lib.ListN.{take, drop}
 use Rattle.rule.specs.Calls.{Call, block, loss, pluck, announce, instant}
 
--- kind 0 is a block that takes a samples from the input and lends an output of b; 1 a loss a; 2 a pluck of amplitude a, count b and
--- seed c; 3 an announced change and 4 an instant one, to length a and delay b. Words that a kind does not use are not looked at
+-- Kind 0 is a block that takes a samples from the input and lends an output of b; 1 a loss a; 2 a pluck of
+-- amplitude a, count b and seed c; 3 an announced change and 4 an instant one, to length a and delay b.
+-- Words that a kind does not use are not looked at.
 abbrev pub called : ℕ → ℕ → ℕ → ℕ → List ℤ → Call
 called kind a b c xs =
     cond (eqb kind 0) (block (take a xs) b)
-    (cond (eqb kind 1) (loss a) (cond (eqb kind 2) (pluck a b c) (cond (eqb kind 3) (announce a b) (instant a b))))
+    (cond (eqb kind 1) (loss a)
+    (cond (eqb kind 2) (pluck a b c) (cond (eqb kind 3) (announce a b) (instant a b))))
 
 -- how many samples a call takes from the input, and how long an output it lends
 abbrev pub takes : ℕ → ℕ → ℕ

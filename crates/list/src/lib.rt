@@ -7,8 +7,8 @@ mod one;
 mod run;
 mod words;
 
-// What `perform` returns: refusal is 31 where the words are not in form, else 0; opening is the number that Open
-// returned; written is how many samples the calls put out.
+// What `perform` returns: refusal is 31 where the words are not in form, else 0; opening is the number that
+// Open returned; written is how many samples the calls put out.
 pub struct Performed {
     pub refusal: u32,
     pub opening: u32,

@@ -1,5 +1,5 @@
-// One call of a list: its words are read, and the call is made on the voice.
-// A block's input and output are parts of what the caller lent.
+// One call of a list, on the voice: a block's input and output are parts of what the caller lent.
+// Contracts cite specs/Words.antt, specs/Performed.antt and the voice's specs/Called.antt.
 ghost use mathlib.Core.Path.{_≡_};
 ghost use mathlib.Core.List.{List};
 ghost use Prim.Native.Nat.{_≤_, _<_};
@@ -22,7 +22,8 @@ use voice::parts::Head;
 // The calls that are no block.
 fn set(line: &[i32; 2112], head: Head, kind: u32, a: u32, b: u32, c: u32) -> Answer
     requires { ⌜ Valid head (now line) × (0 < kind) × (kind ≤ 4) ⌝ }
-    ensures { λ r. ⌜ ((xs : List ℤ) → On head (now (line .entry)) (called kind a b c xs) r (now (line .entry))) ⌝ }
+    ensures { λ r. ⌜ ((xs : List ℤ)
+        → On head (now (line .entry)) (called kind a b c xs) r (now (line .entry))) ⌝ }
 {
     if kind == 1 {
         return loss(head, a);
@@ -49,9 +50,15 @@ pub fn one(
     input: &[i32],
     output: &mut [i32],
 ) -> Answer
-    requires { ⌜ Valid head (now line) × (kind ≤ 4) × (takes kind a ≤ length (now input)) × (lends kind b ≤ length (now output)) ⌝ }
-    ensures { λ r. ⌜ On head (now (line .entry)) (called kind a b c (now (input .entry))) r (now (line .exit)) ⌝ }
-    ensures { λ r. ⌜ now (output .exit) ≡ over (put (stateOf head (now (line .entry))) (called kind a b c (now (input .entry)))) (now (output .entry)) ⌝ }
+    requires { ⌜ Valid head (now line)
+        × (kind ≤ 4)
+        × (takes kind a ≤ length (now input))
+        × (lends kind b ≤ length (now output)) ⌝ }
+    ensures { λ r. ⌜ On head (now (line .entry)) (called kind a b c (now (input .entry))) r
+        (now (line .exit)) ⌝ }
+    ensures { λ r. ⌜ now (output .exit)
+        ≡ over (put (stateOf head (now (line .entry))) (called kind a b c (now (input .entry))))
+        (now (output .entry)) ⌝ }
 {
     if kind == 0 {
         let takes = a as usize;

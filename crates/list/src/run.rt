@@ -1,5 +1,5 @@
 // The calls of a list, one after the other, each on the voice that the call before it left.
-// What a block puts out follows what the blocks before it put out; a refused block puts out nothing.
+// What a block puts out follows what the blocks before it put out. Contracts cite specs/Performed.antt.
 ghost use mathlib.Core.Path.{_≡_};
 ghost use mathlib.Core.Bool.{true};
 ghost use lib.ListN.{length};
@@ -9,8 +9,7 @@ ghost use Rattle.voice.specs.Valid.{Valid};
 ghost use Rattle.list.specs.Words.{calls, formed};
 ghost use Rattle.list.specs.Performed.{over};
 use crate::one::one;
-use crate::words::accepted;
-use crate::words::share;
+use crate::words::if_zero;
 use voice::parts::Head;
 
 // Makes the calls of words, which are in form, and returns how many samples they put out.
@@ -22,10 +21,17 @@ pub fn run(
     output: &mut [i32],
     numbers: &mut [u32],
 ) -> usize
-    requires { ⌜ Valid head (now line) × (formed (now words) (length (now input)) (length (now output)) (length (now numbers)) ≡ true) ⌝ }
-    ensures { λ r. ⌜ r ≡ length (puts (stateOf head (now (line .entry))) (calls (now (words .entry)) (now (input .entry)))) ⌝ }
-    ensures { λ r. ⌜ now (output .exit) ≡ over (puts (stateOf head (now (line .entry))) (calls (now (words .entry)) (now (input .entry)))) (now (output .entry)) ⌝ }
-    ensures { λ r. ⌜ now (numbers .exit) ≡ over (Numbers (stateOf head (now (line .entry))) (calls (now (words .entry)) (now (input .entry)))) (now (numbers .entry)) ⌝ }
+    requires { ⌜ Valid head (now line)
+        × (formed (now words) (length (now input)) (length (now output)) (length (now numbers)) ≡ true) ⌝ }
+    ensures { λ r. ⌜ r
+        ≡ length
+        (puts (stateOf head (now (line .entry))) (calls (now (words .entry)) (now (input .entry)))) ⌝ }
+    ensures { λ r. ⌜ now (output .exit)
+        ≡ over (puts (stateOf head (now (line .entry))) (calls (now (words .entry)) (now (input .entry))))
+        (now (output .entry)) ⌝ }
+    ensures { λ r. ⌜ now (numbers .exit)
+        ≡ over (Numbers (stateOf head (now (line .entry))) (calls (now (words .entry)) (now (input .entry))))
+        (now (numbers .entry)) ⌝ }
 {
     let mut h = head;
     let mut at = 0;
@@ -48,9 +54,9 @@ pub fn run(
             &mut output[written..],
         );
         numbers[k] = r.refusal;
-        written = written + accepted(r.refusal, share(kind, b));
+        written = written + if_zero(r.refusal, if_zero(kind, b as usize));
         h = r.head;
-        used = used + share(kind, a);
+        used = used + if_zero(kind, a as usize);
         k = k + 1;
         at = at + 4;
     }

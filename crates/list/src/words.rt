@@ -1,25 +1,16 @@
-// Whether words are a list of calls that can be performed with so much input, output and places for numbers.
-// One pass over the words, before anything is done.
+// Whether words are a list of calls that can be performed with so much input, output and places for numbers:
+// one pass over the words, before anything is done. Contracts cite specs/Words.antt.
 ghost use mathlib.Core.Path.{_≡_};
 ghost use mathlib.Core.Bool.{cond};
 ghost use lib.Dec.{eqb};
 ghost use Rattle.list.specs.Words.{fits as Fits, formed as Formed};
 
-// How many samples a call takes from the input, or how long an output it lends: n for a block, else 0.
-pub fn share(kind: u32, n: u32) -> usize
-    ensures { λ r. ⌜ r ≡ cond (eqb kind 0) n 0 ⌝ }
+// n where x is 0, else 0: what a kind takes or lends, since only kind 0 is a block, and what a call that
+// returned x put out.
+pub fn if_zero(x: u32, n: usize) -> usize
+    ensures { λ r. ⌜ r ≡ cond (eqb x 0) n 0 ⌝ }
 {
-    if kind == 0 {
-        return n as usize;
-    }
-    0
-}
-
-// n where a call was accepted, else 0.
-pub fn accepted(code: u32, n: usize) -> usize
-    ensures { λ r. ⌜ r ≡ cond (eqb code 0) n 0 ⌝ }
-{
-    if code == 0 {
+    if x == 0 {
         return n;
     }
     0
@@ -61,8 +52,8 @@ pub fn formed(words: &[u32], inputs: usize, outputs: usize, numbers: usize) -> b
             return false;
         }
         let kind = words[at];
-        let takes = share(kind, words[at + 1]);
-        let lends = share(kind, words[at + 2]);
+        let takes = if_zero(kind, words[at + 1] as usize);
+        let lends = if_zero(kind, words[at + 2] as usize);
         if !fits(kind, takes, lends, i, o, n) {
             return false;
         }

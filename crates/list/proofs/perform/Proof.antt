@@ -1,7 +1,7 @@
--- `list::perform` meets its contract: the words are tested, and then the calls are made on what Open returned.
+-- `list::perform` meets its contract: the words are tested, then the calls are made on what Open returned.
 -- Assumes nothing.
 use mathlib.Core.Path.{_≡_, sym, _∙_}
-use mathlib.Core.Bool.{true, false}
+use mathlib.Core.Bool.{Bool, true}
 use borrow.Author.Needs.{needs}
 use borrow.Author.Tests.{not-true, not-false}
 use lib.ListN.{length}
@@ -13,7 +13,14 @@ use Rattle.list.proofs.perform.Statement.{statement}
 use Rattle.list.proofs.perform.Tie as tie
 
 abbrev opening : tie.Start → Opening
-opening s = record { N = s .args .order; L = s .args .length; d = s .args .delay; G = s .args .loss; Na = s .args .advance }
+opening s =
+    let a = s .args in
+    record { N = a .order; L = a .length; d = a .delay; G = a .loss; Na = a .advance }
+
+abbrev Formed : tie.Start → Bool
+Formed s =
+    formed (s .args .words .now) (length (s .args .input .now)) (length (s .args .output .now))
+    (length (s .args .numbers .now))
 
 formed-requires : tie.Need-formed-requires
 formed-requires c κs = search needs
@@ -30,10 +37,7 @@ open-requires : tie.Need-open-requires
 open-requires c κs = search needs
 
 -- in form, where the voice is opened
-in-form : (c : tie.Else1)
-    → formed (c .before .before .before .before .args .words .now) (length (c .before .before .before .before .args .input .now))
-    (length (c .before .before .before .before .args .output .now)) (length (c .before .before .before .before .args .numbers .now))
-    ≡ true
+in-form : (c : tie.Else1) → Formed (c .before .before .before .before) ≡ true
 in-form c = sym (c .before .formed .ensures) ∙ not-false (c .before .formed .result) (c .if1 .left)
 
 run-requires : tie.Need-run-requires
@@ -54,10 +58,11 @@ returns-2 c =
     let s = b .before .before .before .before .before in
     let a = s .args in
     let e = b .«open» .ensures in
+    let f = m .run .ensures in
     let v = stateOf (b .«open» .result .voice .head) (b .«open» .result .voice .line) in
-    done (opening s) (a .words .now) (a .input .now) (a .output .now) (a .numbers .now) (in-form (b .before)) v
-    (e .state) (b .«open» .result .refusal) (m .run .result) (m .run .last .1 .1 .1 .1 .0)
-    (m .run .last .1 .1 .1 .1 .1 .0) (e .number) (m .run .ensures .0) (m .run .ensures .1 .0) (m .run .ensures .1 .1)
+    done (opening s) (a .words .now) (a .input .now) (a .output .now) (a .numbers .now)
+    (in-form (b .before)) v (e .state) (b .«open» .result .refusal) (m .run .result)
+    (m .run .last .1 .1 .1 .1 .0) (m .run .last .1 .1 .1 .1 .1 .0) (e .number) (f .0) (f .1 .0) (f .1 .1)
 
 pub perform-spec : {M : Type 1} → statement M
 perform-spec =

@@ -1,12 +1,11 @@
 -- `list::one::set` meets its contract: each kind's call is the one that is made.
 -- Assumes nothing.
-use mathlib.Core.Path.{_≡_, sym, ap, subst}
+use mathlib.Core.Path.{_≡_, sym, subst}
 use mathlib.Core.List.{List}
 use Prim.Native.Nat.{ℕ}
 use native.Mathlib.Omega.{arith}
 use borrow.Author.Needs.{needs}
 use lib.IntN.{ℤ}
-use Rattle.rule.specs.Calls.{Call}
 use Rattle.voice.specs.declared.parts.Answer.{Answer}
 use Rattle.voice.specs.Called.{On}
 use Rattle.voice.proofs.Called.{on}
@@ -14,13 +13,16 @@ use Rattle.list.specs.Words.{called}
 use Rattle.list.proofs.one.set.Statement.{statement}
 use Rattle.list.proofs.one.set.Tie as tie
 
--- a call of a known kind k
-made : (s : tie.Start) (k : ℕ) → s .args .kind ≡ k → (r : Answer)
-    → ((xs : List ℤ) → On (s .args .head) (s .args .line .now) (called k (s .args .a) (s .args .b) (s .args .c) xs) r (s .args .line .now))
-    → (xs : List ℤ) → On (s .args .head) (s .args .line .now) (called (s .args .kind) (s .args .a) (s .args .b) (s .args .c) xs) r (s .args .line .now)
-made s k e r f xs =
-    let a = s .args in
-    subst (λ (n : ℕ). On (a .head) (a .line .now) (called n (a .a) (a .b) (a .c) xs) r (a .line .now)) (sym e) (f xs)
+-- the call of kind k was made, and returned r
+abbrev Made : tie.Start → ℕ → Answer → Type 0
+Made s k r =
+    (xs : List ℤ)
+    → On (s .args .head) (s .args .line .now) (called k (s .args .a) (s .args .b) (s .args .c) xs) r
+    (s .args .line .now)
+
+-- the kind is known to be k
+made : (s : tie.Start) (k : ℕ) → s .args .kind ≡ k → (r : Answer) → Made s k r → Made s (s .args .kind) r
+made s k e r f = subst (λ (n : ℕ). Made s n r) (sym e) f
 
 loss-requires : tie.Need-loss-requires
 loss-requires c κs = c .before .pre .0 .fit
@@ -28,7 +30,8 @@ loss-requires c κs = c .before .pre .0 .fit
 returns : tie.Need-returns
 returns c =
     let s = c .before .before in
-    made s 1 (c .before .if1 .taken) (c .loss .result) (λ xs. on (s .args .line .now) (c .loss .ensures) (s .pre .0 .line))
+    made s 1 (c .before .if1 .taken) (c .loss .result)
+    (λ xs. on (s .args .line .now) (c .loss .ensures) (s .pre .0 .line))
 
 pluck-requires : tie.Need-pluck-requires
 pluck-requires c κs = c .before .before .pre .0 .fit
@@ -36,7 +39,8 @@ pluck-requires c κs = c .before .before .pre .0 .fit
 returns-2 : tie.Need-returns-2
 returns-2 c =
     let s = c .before .before .before in
-    made s 2 (c .before .if2 .taken) (c .pluck .result) (λ xs. on (s .args .line .now) (c .pluck .ensures) (s .pre .0 .line))
+    made s 2 (c .before .if2 .taken) (c .pluck .result)
+    (λ xs. on (s .args .line .now) (c .pluck .ensures) (s .pre .0 .line))
 
 announce-requires : tie.Need-announce-requires
 announce-requires c κs = c .before .before .before .pre .0 .fit
@@ -44,7 +48,8 @@ announce-requires c κs = c .before .before .before .pre .0 .fit
 returns-3 : tie.Need-returns-3
 returns-3 c =
     let s = c .before .before .before .before in
-    made s 3 (c .before .if3 .taken) (c .announce .result) (λ xs. on (s .args .line .now) (c .announce .ensures) (s .pre .0 .line))
+    made s 3 (c .before .if3 .taken) (c .announce .result)
+    (λ xs. on (s .args .line .now) (c .announce .ensures) (s .pre .0 .line))
 
 instant-requires : tie.Need-instant-requires
 instant-requires c κs = search needs
@@ -52,9 +57,10 @@ instant-requires c κs = search needs
 returns-4 : tie.Need-returns-4
 returns-4 c =
     let b = c .before in
-    let s = b .before .before .before .before in
+    let t = b .before .before in
+    let s = t .before .before in
     let e : s .args .kind ≡ 4
-    = omega (arith, s .pre .1, s .pre .2, b .before .before .before .if1 .left, b .before .before .if2 .left, b .before .if3 .left) in
+    = omega (arith, s .pre .1, s .pre .2, t .before .if1 .left, t .if2 .left, b .before .if3 .left) in
     made s 4 e (b .instant .result .answer) (λ xs. b .instant .ensures .0)
 
 pub set-spec : {M : Type 1} → statement M
