@@ -1,4 +1,3 @@
-
 -- `score::record::field` meets its contract: a field that is absent is 0.
 -- Assumes nothing.
 use mathlib.Core.Path.{_≡_, refl, sym, ap, _∙_}

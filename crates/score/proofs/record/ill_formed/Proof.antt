@@ -1,4 +1,3 @@
-
 -- `score::record::ill_formed` meets its contract: seven bits.
 -- Assumes nothing.
 use borrow.Author.Needs.{needs}

@@ -1,4 +1,3 @@
-
 -- `score::record::read_record` meets its contract: 14, then 15, then the fields and the part after them.
 -- Assumes nothing.
 use mathlib.Core.Path.{_≡_, sym, ap, _∙_}
