@@ -10,9 +10,9 @@ use lib.IntN.{ℤ}
 use lib.ListN.{length, take, drop, take-append-drop}
 use Rattle.rule.specs.Calls.{Call, inputs, number}
 use Rattle.rule.specs.State.{State, told, blockOut, put}
-use Rattle.voice.specs.declared.parts.Head.{Head}
-use Rattle.voice.specs.Struct.{stateOf, voiceOf}
-use Rattle.voice.specs.Called.{lent}
+use Rattle.parts.specs.declared.Head.{Head}
+use Rattle.parts.specs.Struct.{stateOf, voiceOf}
+use Rattle.parts.specs.Called.{lent}
 use Rattle.list.specs.Words.{called}
 use Rattle.list.specs.Performed.{over}
 

@@ -32,3 +32,7 @@ absent n (l ∷ ls) = not (eqb n (l .number)) && absent n ls
 abbrev pub numbered : List Limit → Bool
 numbered [] = true
 numbered (l ∷ ls) = ltb 0 (l .number) && (absent (l .number) ls && numbered ls)
+
+-- r is what the tests ls and then l give, where n is what ls give
+abbrev pub Tests : ℕ → Limit → ℕ → Type 0
+Tests n l r = (ls : List Limit) → T (numbered ls) → n ≡ refusal ls → r ≡ refusal (ls ++ l ∷ [])

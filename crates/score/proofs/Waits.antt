@@ -13,11 +13,11 @@ use Rattle.integer.specs.Rounding.{M}
 use Rattle.samples.specs.Samples.{loudest}
 use Rattle.rule.specs.Calls.{Call, block, announce, instant, number, done, inputs}
 use Rattle.rule.specs.State.{State, step, blockAfter, blockOut, call, put, puts, from}
-use Rattle.voice.specs.declared.parts.Head.{Head}
-use Rattle.voice.specs.Struct.{stateOf}
-use Rattle.voice.specs.Valid.{Valid}
-use Rattle.voice.proofs.Called.{call-accepted}
-use Rattle.voice.proofs.Blocks.{plays}
+use Rattle.parts.specs.declared.Head.{Head}
+use Rattle.parts.specs.Struct.{stateOf}
+use Rattle.parts.specs.Valid.{Valid}
+use Rattle.parts.proofs.Called.{call-accepted}
+use Rattle.block.proofs.Blocks.{plays}
 use Rattle.score.specs.Run.{value, stands, absent, waitCalls, lossCalls, change, changeCalls, pluckCalls}
 use Rattle.score.specs.Run.{lengthTo, delayTo, result, then, actCalls, recordCalls}
 use Rattle.score.specs.Played.{Does}

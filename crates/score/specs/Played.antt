@@ -7,10 +7,10 @@ use lib.IntN.{ℤ}
 use lib.ListN.{length, drop}
 use Rattle.rule.specs.Calls.{Call}
 use Rattle.rule.specs.State.{State, from, puts, fresh}
-use Rattle.voice.specs.declared.parts.Head.{Head}
-use Rattle.voice.specs.declared.parts.Answer.{Answer}
-use Rattle.voice.specs.Struct.{stateOf}
-use Rattle.voice.specs.Valid.{Valid}
+use Rattle.parts.specs.declared.Head.{Head}
+use Rattle.parts.specs.declared.Answer.{Answer}
+use Rattle.parts.specs.Struct.{stateOf}
+use Rattle.parts.specs.Valid.{Valid}
 use Rattle.score.specs.declared.run.Played.{Played}
 use Rattle.score.specs.Run.{Outcome, result, allRecords, opening, run}
 

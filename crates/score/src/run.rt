@@ -7,16 +7,16 @@ ghost use lib.Dec.{eqb};
 ghost use lib.IntN.{ℤ};
 ghost use lib.ListN.{length, getD};
 ghost use Rattle.rule.specs.State.{puts};
-ghost use Rattle.voice.specs.Struct.{stateOf};
-ghost use Rattle.voice.specs.Valid.{Fit, Valid};
-ghost use Rattle.voice.specs.Called.{Tests};
+ghost use Rattle.parts.specs.Struct.{stateOf};
+ghost use Rattle.parts.specs.Valid.{Fit, Valid};
+ghost use Rattle.refusal.specs.Returned.{Tests};
 ghost use Rattle.score.specs.Run.{value, fits, lossCalls, changeCalls, pluckCalls, actCalls, recordCalls};
 ghost use Rattle.score.specs.Played.{Does, PlaysAll, Runs};
 use crate::record::bit;
 use crate::record::read_record;
 use crate::record::word;
-use voice::parts::Answer;
-use voice::parts::Head;
+use parts::Answer;
+use parts::Head;
 
 // What a run returns: its number, its place, and how many samples it wrote.
 pub struct Played {
@@ -56,9 +56,9 @@ fn change(line: &[i32; 2112], head: Head, r: &[u32; 9]) -> Answer
     let length = chosen(bit(map, 2), r[3], head.filter.tuning.length);
     let delay = chosen(bit(map, 4), r[4], head.filter.tuning.delay);
     if bit(map, 128) == 0 {
-        return voice::change::announce(head, length, delay);
+        return change::announce(head, length, delay);
     }
-    let c = voice::change::instant(line, head, length, delay);
+    let c = change::instant(line, head, length, delay);
     c.answer
 }
 
@@ -133,7 +133,7 @@ fn follow(line: &mut [i32; 2112], head: Head, r: &[u32; 9], buffer: &mut [i32]) 
         ≡ puts (stateOf head (now (line .entry))) (recordCalls (now (r .entry)) (stateOf head (now (line .entry)))) ⌝ }
 {
     samples::clear(buffer);
-    let h = voice::block::render(line, head, buffer);
+    let h = block::render(line, head, buffer);
     act(line, h, r)
 }
 

@@ -1,12 +1,1 @@
-pub mod Blocks
-pub mod Called
-pub mod Changes
-pub mod Filters
-pub mod Machine
 pub mod Opened
-pub mod Refusals
-pub mod Rendered
-pub mod Settles
-pub mod Steps
-pub mod Ticks
-pub mod Windows

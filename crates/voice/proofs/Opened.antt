@@ -16,12 +16,12 @@ use Rattle.line.proofs.Ring.{ring-silent}
 use Rattle.rule.specs.Voice.{Tuning, Voice, rest}
 use Rattle.rule.specs.Calls.{Opening, openLimits, resting, opened}
 use Rattle.rule.specs.State.{silence, fresh}
-use Rattle.voice.specs.declared.parts.Filter.{Filter}
-use Rattle.voice.specs.declared.parts.Waiting.the-variants.{Idle}
-use Rattle.voice.specs.declared.parts.Head.{Head}
-use Rattle.voice.specs.Struct.{tuningOf, filterOf, stateOf}
-use Rattle.voice.specs.Valid.{Tuned, Valid}
-use Rattle.voice.proofs.Called.{voice-by}
+use Rattle.parts.specs.declared.Filter.{Filter}
+use Rattle.parts.specs.declared.Waiting.the-variants.{Idle}
+use Rattle.parts.specs.declared.Head.{Head}
+use Rattle.parts.specs.Struct.{tuningOf, filterOf, stateOf}
+use Rattle.parts.specs.Valid.{Tuned, Valid}
+use Rattle.parts.proofs.Called.{voice-by}
 
 -- ---- a resting voice
 abbrev pub zeros : List ℤ

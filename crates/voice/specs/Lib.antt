@@ -1,4 +1,1 @@
-pub mod Struct
-pub mod Valid
-pub mod Sample
-pub mod Called
+pub mod Opened

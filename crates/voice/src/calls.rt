@@ -1,12 +1,12 @@
 // The calls that set a number: loss and pluck.
 // Neither reads or writes the line.
 ghost use Rattle.rule.specs.Calls.{loss as Loss, pluck as Plucking};
-ghost use Rattle.voice.specs.Valid.{Fit};
-ghost use Rattle.voice.specs.Called.{Called};
-use crate::open::tested;
-use crate::parts::Answer;
-use crate::parts::Head;
-use crate::parts::Pluck;
+ghost use Rattle.parts.specs.Valid.{Fit};
+ghost use Rattle.parts.specs.Called.{Called};
+use parts::Answer;
+use parts::Head;
+use parts::Pluck;
+use refusal::tested;
 
 // Sets the loss.
 pub fn loss(head: Head, g: u32) -> Answer

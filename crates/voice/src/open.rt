@@ -1,67 +1,29 @@
 // Open: a resting voice, or document 01's voice of a refused opening.
-// The other calls share its tests, one after the other, and its filter at rest, where an eliminator starts.
+// A voice is a head and a line.
 ghost use mathlib.Core.Path.{_≡_};
-ghost use mathlib.Core.List.{[], _∷_};
-ghost use Prim.Native.Nat.{_≤_};
 ghost use Rattle.refusal.specs.Limits.{refusal};
-ghost use Rattle.refusal.specs.Orders.{Takes, orders, delay as Delay};
 ghost use Rattle.refusal.specs.Returned.{AllKept};
 ghost use Rattle.rule.specs.Calls.{openLimits, resting as Resting};
-ghost use Rattle.rule.specs.Tests.{long};
 ghost use Rattle.rule.specs.State.{silence};
-ghost use Rattle.voice.specs.Struct.{stateOf};
-ghost use Rattle.voice.specs.Valid.{Valid};
-ghost use Rattle.voice.specs.Called.{Tests, Rests, Opens};
-use crate::parts::Filter;
-use crate::parts::Head;
-use crate::parts::Opened;
-use crate::parts::Pluck;
-use crate::parts::Tuning;
-use crate::parts::Voice;
-use crate::parts::Waiting;
-use allpass::State;
+ghost use Rattle.parts.specs.Struct.{stateOf};
+ghost use Rattle.parts.specs.Valid.{Valid};
+ghost use Rattle.voice.specs.Opened.{Opens};
 use integer::Value;
+use parts::Head;
+use parts::Pluck;
+use parts::Waiting;
+use parts::resting;
+use parts::untuned;
+use refusal::tested;
 
-// The filter of a tuning, at rest.
-pub fn resting(order: u32, length: u32, delay: u32) -> Filter
-    requires { ⌜ Takes order delay × (1 ≤ length) × (length ≤ 2048) ⌝ }
-    ensures { λ r. ⌜ Rests order length delay r ⌝ }
-{
-    let c = thiran::formula::set(order, delay);
-    let t = Tuning {
-        order: order,
-        length: length,
-        delay: delay,
-    };
-    let s = State { v1: 0, v2: 0 };
-    Filter {
-        tuning: t,
-        coefficients: c,
-        state: s,
-    }
+pub struct Voice {
+    pub head: Head,
+    pub line: [i32; 2112],
 }
 
-// What the tests so far gave, and where that is 0 the number of one more whose value is outside its limits.
-pub fn tested(code: u32, number: u32, value: u32, low: u32, high: u32) -> u32
-    ensures { λ r. ⌜ Tests code (record { number = number; low = low; value = value; high = high }) r ⌝ }
-{
-    if code != 0 {
-        return code;
-    }
-    if refusal::outside(value, low, high) {
-        return number;
-    }
-    0
-}
-
-// What a length and a delay are refused by in an order: 2, 3, else 0.
-pub fn untuned(order: u32, length: u32, delay: u32) -> u32
-    requires { ⌜ (1 ≤ order) × (order ≤ orders) ⌝ }
-    ensures { λ r. ⌜ r ≡ refusal (long length ∷ Delay order delay ∷ []) ⌝ }
-{
-    let code = tested(0, refusal::LENGTH, length, 1, 2_048);
-    let middle = 4_096 * order;
-    tested(code, refusal::DELAY, delay, middle - 2_047, middle + 2_048)
+pub struct Opened {
+    pub refusal: u32,
+    pub voice: Voice,
 }
 
 // What an opening is refused by: 1, 2, 3, 4, 5, else 0.

@@ -6,7 +6,7 @@ use borrow.Author.Needs.{needs}
 use borrow.Author.Tests.{not-true, not-false}
 use lib.ListN.{length}
 use Rattle.rule.specs.Calls.{Opening}
-use Rattle.voice.specs.Struct.{stateOf}
+use Rattle.parts.specs.Struct.{stateOf}
 use Rattle.list.specs.Words.{formed}
 use Rattle.list.proofs.Whole.{unformed, done}
 use Rattle.list.proofs.perform.Statement.{statement}

@@ -11,7 +11,7 @@ use borrow.Rule.Slice.PartMut.{putMid, post-is}
 use lib.IntN.{ℤ}
 use lib.ListN.{length, take}
 use lib.Seq.{drop-length}
-use Rattle.voice.specs.Struct.{stateOf}
+use Rattle.parts.specs.Struct.{stateOf}
 use Rattle.list.proofs.Running.{begun, out-long, nums-long}
 use Rattle.list.proofs.Running.{all-out, all-written, all-numbers}
 use Rattle.list.proofs.Turn.{called-next}

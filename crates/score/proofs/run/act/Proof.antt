@@ -3,7 +3,7 @@
 use mathlib.Core.List.{List}
 use Prim.Native.Nat.{ℕ}
 use lib.IntN.{ℤ}
-use Rattle.voice.specs.Struct.{stateOf}
+use Rattle.parts.specs.Struct.{stateOf}
 use Rattle.score.specs.Run.{lossCalls, changeCalls, pluckCalls, then, actCalls}
 use Rattle.score.specs.Played.{Does}
 use Rattle.score.proofs.Following.{does-stops, does-then}

@@ -8,7 +8,7 @@ use lib.ListN.{length, replicate}
 use Rattle.integer.specs.Rounding.{M}
 use Rattle.samples.specs.Samples.{loudest}
 use Rattle.rule.specs.State.{blockOut}
-use Rattle.voice.specs.Struct.{stateOf}
+use Rattle.parts.specs.Struct.{stateOf}
 use Rattle.score.specs.Run.{value, waitCalls, actCalls, recordCalls}
 use Rattle.score.proofs.Following.{does-then}
 use Rattle.score.proofs.Waits.{zeros-quiet, wait-does, record-puts}

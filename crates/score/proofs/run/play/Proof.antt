@@ -10,8 +10,8 @@ use lib.IntN.{ℤ}
 use lib.ListN.{length, getD}
 use Rattle.refusal.specs.Limits.{refusal}
 use Rattle.rule.specs.State.{State, from, puts}
-use Rattle.voice.specs.Struct.{stateOf}
-use Rattle.voice.specs.Valid.{Valid}
+use Rattle.parts.specs.Struct.{stateOf}
+use Rattle.parts.specs.Valid.{Valid}
 use Rattle.score.specs.Record.{recordLimits, fields}
 use Rattle.score.specs.Run.{value, fits, playLimits, result, recordCalls}
 use Rattle.score.proofs.Playing.{Playing, begun, read-number, has-room, all-played, refused}

@@ -5,8 +5,8 @@ use mathlib.Core.Bool.{cond}
 use Prim.Native.Nat.{ℕ}
 use lib.Dec.{eqb}
 use Rattle.rule.specs.Calls.{Call, pluck}
-use Rattle.voice.specs.Struct.{stateOf}
-use Rattle.voice.proofs.Called.{on}
+use Rattle.parts.specs.Struct.{stateOf}
+use Rattle.parts.proofs.Called.{on}
 use Rattle.score.specs.Run.{value, stands, countOf}
 use Rattle.score.proofs.Following.{part-none, part-one, on-as}
 use borrow.Author.Needs.{needs}

@@ -5,7 +5,7 @@ use mathlib.Core.List.{[], _∷_}
 use native.Mathlib.Omega.{arith}
 use Rattle.refusal.specs.Limits.{Limit}
 use Rattle.refusal.proofs.Returned.{here, past, kept-is, is-met}
-use Rattle.voice.proofs.Refusals.{stops, passes}
+use Rattle.refusal.proofs.Passed.{stops, passes}
 use Rattle.score.specs.Run.{fits}
 use borrow.Author.Needs.{needs}
 use Rattle.score.proofs.run.refused.Statement.{statement}

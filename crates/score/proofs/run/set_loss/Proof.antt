@@ -3,7 +3,7 @@
 use mathlib.Core.Path.{_≡_, sym, _∙_}
 use Prim.Native.Nat.{ℕ}
 use Rattle.rule.specs.Calls.{loss}
-use Rattle.voice.proofs.Called.{on}
+use Rattle.parts.proofs.Called.{on}
 use Rattle.score.specs.Run.{value, stands}
 use Rattle.score.proofs.Following.{part-none, part-one}
 use borrow.Author.Needs.{needs}

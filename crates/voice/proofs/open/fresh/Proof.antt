@@ -1,8 +1,8 @@
 -- `voice::open::fresh` meets its contract: its filter is at rest, and its line is silent.
 -- Assumes nothing.
 use mathlib.Core.Path.{ap}
-use Rattle.voice.specs.Struct.{tuningOf}
-use Rattle.voice.proofs.Refusals.{opening-tunes}
+use Rattle.parts.specs.Struct.{tuningOf}
+use Rattle.parts.proofs.Tunes.{opening-tunes}
 use Rattle.voice.proofs.Opened.{rests, rests-valid}
 use Rattle.voice.proofs.open.fresh.Statement.{statement}
 use Rattle.voice.proofs.open.fresh.Tie as tie

@@ -1,0 +1,69 @@
+-- A block's number, what a refused call leaves, and what an accepted block does, in the terms of the calls' contracts.
+-- Assumes nothing.
+use mathlib.Core.Path.{_≡_, refl, sym, ap, _∙_}
+use mathlib.Core.Bool.{Bool, true, false, cond}
+use mathlib.Core.List.{List, [], _∷_}
+use Prim.Native.Nat.{ℕ, _≤_}
+use native.Mathlib.Omega.{arith}
+use borrow.Author.Tests.{eq-eqb, ne-eqb, leb-false}
+use lib.Dec.{leb}
+use lib.IntN.{ℤ}
+use lib.ListN.{length}
+use Rattle.integer.specs.Rounding.{M}
+use Rattle.samples.specs.Samples.{loudest}
+use Rattle.refusal.specs.Limits.{Limit}
+use Rattle.refusal.proofs.Returned.{here, past, kept-is, is-met}
+use Rattle.rule.specs.Voice.{Voice}
+use Rattle.rule.specs.Calls.{Call, block, number, done}
+use Rattle.rule.specs.State.{State, blockAfter, blockOut, put}
+use Rattle.parts.specs.declared.Head.{Head}
+use Rattle.parts.specs.Struct.{voiceOf, stateOf}
+use Rattle.parts.specs.Valid.{Valid}
+use Rattle.parts.specs.Called.{On, lent}
+use Rattle.parts.proofs.Called.{call-refused, call-accepted}
+
+-- ---- a block's number
+module _ (v : Voice) (xs : List ℤ) (n : ℕ) where
+  lengths : Limit
+  lengths = record { number = 9; low = n; value = length xs; high = n }
+
+  samples : Limit
+  samples = record { number = 10; low = 0; value = loudest xs; high = M }
+
+  pub differ : (length xs ≡ n → ⊥) → 9 ≡ number v (block xs n)
+  unfolding number lengths samples
+  differ f = sym (here lengths (samples ∷ []) (is-met lengths (λ k. f (omega (arith, k .least, k .most)))))
+
+  module _ (e : length xs ≡ n) where
+    pub too-loud : leb (loudest xs) M ≡ false → 10 ≡ number v (block xs n)
+    unfolding number lengths samples
+    too-loud f =
+        let met = is-met samples (λ k. omega (arith, k .most, leb-false (loudest xs) M f)) in
+        past lengths (samples ∷ []) (kept-is lengths (record { least = omega arith; most = omega arith }))
+        (sym (here samples [] met))
+
+    pub plays : loudest xs ≤ M → 0 ≡ number v (block xs n)
+    unfolding number lengths samples
+    plays h =
+        past lengths (samples ∷ []) (kept-is lengths (record { least = omega arith; most = omega arith }))
+        (past samples [] (kept-is samples (record { least = omega arith; most = h })) refl)
+
+-- ---- a refused call
+module _ (h : Head) (l : List ℤ) (c : Call) where
+  pub refused-on : {k : ℕ} → Valid h l → k ≡ number (voiceOf h) c → (k ≡ 0 → ⊥)
+      → On h l c (record { refusal = k; head = h }) l
+  refused-on g e f = record { number = e; state = sym (call-refused (stateOf h l) c (λ z. f (e ∙ z))); valid = g }
+
+  pub refused-lent : {k : ℕ} → k ≡ number (voiceOf h) c → (k ≡ 0 → ⊥) → (before : List ℤ) → before ≡ lent h l c before
+  refused-lent e f before = rw (ne-eqb (number (voiceOf h) c) 0 (λ z. f (e ∙ z)))
+
+-- ---- an accepted block
+module _ (h : Head) (l xs : List ℤ) (n : ℕ) (e : 0 ≡ number (voiceOf h) (block xs n)) where
+  pub block-on : (r : Head) (k : List ℤ) → Valid r k → stateOf r k ≡ blockAfter (stateOf h l) xs
+      → On h l (block xs n) (record { refusal = 0; head = r }) k
+  unfolding done
+  block-on r k g i = record { number = e; state = i ∙ sym (call-accepted (stateOf h l) (block xs n) (sym e)); valid = g }
+
+  pub block-lent : (out before : List ℤ) → out ≡ blockOut (stateOf h l) xs → out ≡ lent h l (block xs n) before
+  unfolding put done
+  block-lent out before i = rw (eq-eqb (number (voiceOf h) (block xs n)) 0 (sym e)) i

@@ -1,0 +1,37 @@
+-- `change::refused` meets its contract: the tests of the tuning, and then whether a change waits.
+-- Assumes nothing.
+use mathlib.Core.Path.{_≡_, sym, _∙_}
+use mathlib.Core.List.{[], _∷_}
+use borrow.Author.Needs.{needs}
+use Rattle.refusal.specs.Limits.{refusal}
+use Rattle.refusal.specs.Orders.{delay}
+use Rattle.rule.specs.Calls.{changeLimits}
+use Rattle.rule.specs.Tests.{long}
+use Rattle.parts.specs.Struct.{voiceOf}
+use Rattle.refusal.proofs.Passed.{passed}
+use Rattle.parts.proofs.Tunes.{change-tunes}
+use Rattle.change.proofs.refused.Statement.{statement}
+use Rattle.change.proofs.refused.Tie as tie
+
+untuned-requires : tie.Need-untuned-requires
+untuned-requires c κs = search needs
+
+waiting-requires : tie.Need-waiting-requires
+waiting-requires c κs = search needs
+
+tested-requires : tie.Need-tested-requires
+tested-requires c κs = search needs
+
+returns : tie.Need-returns
+returns c =
+    let u = c .before .before in
+    let s = u .before in
+    let a = s .args in
+    let tuning = long (a .length) ∷ delay (a .h .filter .tuning .order) (a .delay) ∷ [] in
+    let tests = changeLimits (voiceOf (a .h)) (a .length) (a .delay) in
+    let e : c .tested .result ≡ refusal tests =
+    rw (c .before .waiting .ensures) at (c .tested .ensures tuning tt (u .untuned .ensures)) in
+    record { number = e; within = λ z. change-tunes (s .pre) (passed tests tt (sym e ∙ z)) }
+
+pub refused-spec : {M : Type 1} → statement M
+refused-spec = tie.close (tie.spec untuned-requires waiting-requires tested-requires returns)

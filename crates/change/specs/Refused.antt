@@ -1,0 +1,14 @@
+-- What a change is refused by, in the sample rule's terms.
+-- Definitions alone. Assumes nothing.
+use mathlib.Core.Path.{_≡_}
+use Prim.Native.Nat.{ℕ, _≤_}
+use Rattle.refusal.specs.Limits.{refusal}
+use Rattle.refusal.specs.Orders.{Takes}
+use Rattle.rule.specs.Calls.{changeLimits}
+use Rattle.parts.specs.declared.Head.{Head}
+use Rattle.parts.specs.Struct.{voiceOf}
+
+-- r is what a change is refused by; the tuning of one that is not is within its limits
+pub record Refuses (h : Head) (L d r : ℕ) : Type 0 where
+  pub number : r ≡ refusal (changeLimits (voiceOf h) L d)
+  pub within : r ≡ 0 → Takes (h .filter .tuning .order) d × (1 ≤ L) × (L ≤ 2048)

@@ -1,0 +1,121 @@
+// The changes of length and delay: announced, and instant.
+// An eliminator starts at rest; an instant one is run over samples that the line still holds.
+ghost use mathlib.Core.Path.{_≡_};
+ghost use Prim.Native.Nat.{_≤_, _<_};
+ghost use Rattle.integer.specs.Rounding.{M};
+ghost use Rattle.allpass.specs.Bounds.{Within};
+ghost use Rattle.rule.specs.Calls.{announce as Announce, instant as Instant, count as Count};
+ghost use Rattle.rule.specs.Calls.{window};
+ghost use Rattle.rule.specs.Tests.{waitings};
+ghost use Rattle.rule.specs.State.{back};
+ghost use Rattle.line.specs.Ring.{ring};
+ghost use Rattle.parts.specs.Struct.{waitingOf, voiceOf};
+ghost use Rattle.parts.specs.Valid.{Tuned, Fit, Valid};
+ghost use Rattle.step.specs.Sample.{Ran};
+ghost use Rattle.parts.specs.Called.{Called, On};
+ghost use Rattle.change.specs.Refused.{Refuses};
+use parts::Answer;
+use parts::Filter;
+use parts::Head;
+use parts::Waiting;
+use parts::resting;
+use parts::untuned;
+use parts::with;
+use refusal::tested;
+use step::moved;
+
+// What an instant change returns: count is the number of samples that its eliminator was run over.
+pub struct Changed {
+    pub answer: Answer,
+    pub count: u32,
+}
+
+// How many changes wait: none or one.
+fn waiting(w: Waiting) -> u32
+    ensures { λ r. ⌜ r ≡ waitings (waitingOf w) ⌝ }
+{
+    match w {
+        Waiting::Idle => 0,
+        Waiting::Announced(_, _) => 1,
+    }
+}
+
+// What a change is refused by: 2, 3, then 6, else 0.
+fn refused(h: Head, length: u32, delay: u32) -> u32
+    requires { ⌜ Fit h ⌝ }
+    ensures { λ r. ⌜ Refuses h length delay r ⌝ }
+{
+    let code = untuned(h.filter.tuning.order, length, delay);
+    let w = h.waiting;
+    tested(code, refusal::CHANGE_WAITS, waiting(w), 0, 0)
+}
+
+// Announces a change: its eliminator starts at rest, and takes effect after as many samples as the advance.
+pub fn announce(head: Head, length: u32, delay: u32) -> Answer
+    requires { ⌜ Fit head ⌝ }
+    ensures { λ r. ⌜ Called head (Announce length delay) r ⌝ }
+{
+    let code = refused(head, length, delay);
+    if code != 0 {
+        return Answer {
+            refusal: code,
+            head: head,
+        };
+    }
+    let e = resting(head.filter.tuning.order, length, delay);
+    if head.advance == 0 {
+        return Answer {
+            refusal: 0,
+            head: with(head, e, Waiting::Idle),
+        };
+    }
+    let f = head.filter;
+    Answer {
+        refusal: 0,
+        head: with(head, f, Waiting::Announced(e, 0)),
+    }
+}
+
+// The eliminator f after the last reads of the line, as many as the advance.
+fn prepared(line: &[i32; 2112], f: Filter, at: usize, advance: u32) -> Filter
+    requires { ⌜ Tuned f × (at < 2112) × (advance ≤ 64) × Within M (ring at (now line)) ⌝ }
+    ensures { λ r. ⌜ Ran f (window (back (ring at (now (line .entry)))) (f .tuning .length) advance) r ⌝ }
+{
+    let mut p = f;
+    let mut left = advance;
+    while 0 < left {
+        let x = line::read(line, at, (f.tuning.length + left) as usize);
+        p = moved(p, x);
+        left = left - 1;
+    }
+    p
+}
+
+// Changes at once, from an eliminator that is run first over as many samples as the advance.
+pub fn instant(line: &[i32; 2112], head: Head, length: u32, delay: u32) -> Changed
+    requires { ⌜ Valid head (now line) ⌝ }
+    ensures { λ r. ⌜ On head (now (line .entry)) (Instant length delay) (r .answer) (now (line .entry)) ⌝ }
+    ensures { λ r. ⌜ r .count ≡ Count (voiceOf head) (Instant length delay) ⌝ }
+{
+    let code = refused(head, length, delay);
+    if code != 0 {
+        let a = Answer {
+            refusal: code,
+            head: head,
+        };
+        return Changed {
+            answer: a,
+            count: 0,
+        };
+    }
+    let e = resting(head.filter.tuning.order, length, delay);
+    let p = prepared(line, e, head.at, head.advance);
+    let a = Answer {
+        refusal: 0,
+        head: with(head, p, Waiting::Idle),
+    };
+    Changed {
+        answer: a,
+        count: head.advance,
+    }
+}
