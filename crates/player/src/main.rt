@@ -37,7 +37,7 @@ fn main() {
     let mut bytes = [0u8; 32768];
     let got = io::read_full(STDIN_FILENO, &mut bytes);
     let mut output = [0i32; 16384];
-    let r = score::run::run(&bytes[..got], &mut output);
+    let r = score::run(&bytes[..got], &mut output);
     if samples(&output, r.written) {
         io::write_all(STDOUT_FILENO, b"end");
         number(r.refusal as u64);

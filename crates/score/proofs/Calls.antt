@@ -8,7 +8,7 @@ use lib.ListN.{length, drop}
 use lib.Seq.{take-at, drop-at}
 use Rattle.rule.specs.State.{fresh, puts}
 use Rattle.rule.proofs.Click.{click}
-use Rattle.score.specs.declared.run.Played.{Played}
+use Rattle.score.specs.declared.Played.{Played}
 use Rattle.score.specs.Run.{opening, run}
 use Rattle.score.specs.Played.{Runs}
 use Rattle.score.specs.Listed.{Listed}

@@ -12,8 +12,8 @@ use Rattle.refusal.specs.Returned.{Returned}
 use Rattle.refusal.proofs.Returned.{here, past, kept-is, is-met, returned}
 use Rattle.rule.specs.Calls.{Opening, openLimits}
 use Rattle.rule.specs.State.{State, fresh}
-use Rattle.score.specs.declared.run.Played.{Played}
-use Rattle.score.specs.Record.{word}
+use Rattle.score.specs.declared.Played.{Played}
+use Rattle.record.specs.Record.{word}
 use Rattle.score.specs.Run.{Outcome, ends, allRecords, opening, headerLimits, run}
 use Rattle.score.specs.Played.{Plays, PlaysAll, Runs}
 use Rattle.score.proofs.Playing.{plays-as}

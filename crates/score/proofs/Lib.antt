@@ -1,4 +1,3 @@
-pub mod Bytes
 pub mod Sequence
 pub mod Following
 pub mod Waits

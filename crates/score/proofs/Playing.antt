@@ -12,11 +12,11 @@ use Rattle.refusal.specs.Returned.{AllKept, none, more, Returned}
 use Rattle.refusal.proofs.Returned.{returned}
 use Rattle.rule.specs.Calls.{Call}
 use Rattle.rule.specs.State.{State, from, puts}
-use Rattle.score.specs.Record.{recordLimits, recordNumber, fields, rest}
+use Rattle.record.specs.Record.{recordLimits, recordNumber, fields, rest}
 use Rattle.score.specs.Run.{Outcome, value, ends, joined, result, recordCalls, playLimits, played, records}
 use Rattle.score.specs.Run.{allRecords}
 use Rattle.score.specs.Played.{over, Plays}
-use Rattle.score.proofs.Bytes.{record-returned}
+use Rattle.record.proofs.Reading.{record-returned}
 
 -- the records s on the voice u with the output out: what is left is the bytes t on the voice v, from index k on
 pub record Playing (s : List ℕ) (u : State) (out : List ℤ) (v : State) (t : List ℕ) (k done : ℕ) (now : List ℤ) : Type 0 where

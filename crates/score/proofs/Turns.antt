@@ -11,10 +11,10 @@ use lib.Seq.{length-take-le, drop-drop, drop-append-seam, take-append-seam}
 use Rattle.refusal.specs.Limits.{refusal}
 use Rattle.rule.specs.Calls.{Call}
 use Rattle.rule.specs.State.{State, from, puts, blockOut}
-use Rattle.score.specs.Record.{mapOf, bytes, fields, rest}
+use Rattle.record.specs.Record.{mapOf, bytes, fields, rest}
 use Rattle.score.specs.Run.{Outcome, value, ends, joined, result, recordCalls, playLimits, records, allRecords}
 use Rattle.score.specs.Played.{over, Plays}
-use Rattle.score.proofs.Bytes.{taken-rest}
+use Rattle.record.proofs.Reading.{taken-rest}
 use Rattle.score.proofs.Sequence.{from-append, puts-append}
 use Rattle.score.proofs.Waits.{record-puts, out-length}
 use Rattle.score.proofs.Playing.{Playing, has-room, later, opens, played-stops, played-all, plays-as}

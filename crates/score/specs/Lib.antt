@@ -1,4 +1,3 @@
-pub mod Record
 pub mod Run
 pub mod Played
 pub mod Listed

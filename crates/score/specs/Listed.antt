@@ -8,7 +8,7 @@ use lib.ListN.{length, take, drop}
 use Rattle.rule.specs.Calls.{Call}
 use Rattle.rule.specs.State.{fresh, puts}
 use Rattle.rule.specs.Click.{Click}
-use Rattle.score.specs.declared.run.Played.{Played}
+use Rattle.score.specs.declared.Played.{Played}
 use Rattle.score.specs.Run.{opening, run}
 
 -- the run of the score s over a lent output, which returned r and left the output as after

@@ -11,7 +11,7 @@ use Rattle.parts.specs.declared.Head.{Head}
 use Rattle.parts.specs.declared.Answer.{Answer}
 use Rattle.parts.specs.Struct.{stateOf}
 use Rattle.parts.specs.Valid.{Valid}
-use Rattle.score.specs.declared.run.Played.{Played}
+use Rattle.score.specs.declared.Played.{Played}
 use Rattle.score.specs.Run.{Outcome, result, allRecords, opening, run}
 
 -- the calls cs on a head and the line l, which is left as k: the number that ends them, and the voice

@@ -9,7 +9,7 @@ use lib.ListN.{length, getD, drop, replicate}
 use Rattle.refusal.specs.Limits.{Limit, refusal}
 use Rattle.rule.specs.Calls.{Call, block, loss, pluck, announce, instant, Opening, openLimits}
 use Rattle.rule.specs.State.{State, numbers, from, fresh}
-use Rattle.score.specs.Record.{bit, word, recordLimits, fields, rest}
+use Rattle.record.specs.Record.{bit, word, recordLimits, fields, rest}
 
 -- its field k, and whether bit k is absent
 abbrev pub value : List ℕ → ℕ → ℕ
