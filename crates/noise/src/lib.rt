@@ -1,7 +1,7 @@
-// The noise generator of a pluck: a draw by value, which returns the number drawn and the state left.
+// The noise generator of a pluck: a draw by value, and one on a state that the caller lends.
 // Contracts cite specs/Noise.antt.
 ghost use mathlib.Core.Path.{_≡_};
-ghost use Rattle.noise.specs.Noise.{next as Next, drawn};
+ghost use Rattle.noise.specs.Noise.{next as Next, value, drawn};
 use integer::wrapping_mul_u32;
 use std::num::wrapping_add_u32;
 
@@ -25,5 +25,22 @@ pub fn draw(state: u32) -> Drawn
     Drawn {
         value: (moved / 65_536) as i32 - 32_768,
         state: moved,
+    }
+}
+
+// A noise state that a caller lends, and finds advanced.
+pub struct Noise {
+    pub state: u32,
+}
+
+impl Noise {
+    // One draw on the lent state.
+    pub fn draw(&mut self) -> i32
+        ensures { λ r. ⌜ (r ≡ value (Next (now (self .entry) .state)))
+            × (now (self .exit) .state ≡ Next (now (self .entry) .state)) ⌝ }
+    {
+        let d = draw(self.state);
+        self.state = d.state;
+        d.value
     }
 }
