@@ -1,6 +1,5 @@
 // The delay line of a voice: an array used as a ring, lent for each sample and never copied.
 // Contracts speak of its samples newest first, `ring`, and not of where they stand.
-// Each function takes the array as a slice, which tells that it has 2,112 samples.
 ghost use mathlib.Core.Path.{_≡_};
 ghost use mathlib.Core.List.{_∷_};
 ghost use Prim.Native.Nat.{_+_, _-_, _%_, _≤_, _<_};
@@ -15,10 +14,7 @@ pub fn read(line: &[i32; 2112], at: usize, k: usize) -> Value
     requires { ⌜ (at < 2112) × (1 ≤ k) × (k ≤ 2112) ⌝ }
     ensures { λ r. ⌜ r .n ≡ getD (ring at (now (line .entry))) (k - 1) (pos 0) ⌝ }
 {
-    let i = place(at, k);
-    let s: &[i32] = line;
-    let x = s[i];
-    Value { n: x as i64 }
+    samples::read(line, place(at, k))
 }
 
 // The place that is k steps before at, round the ring.
@@ -34,8 +30,6 @@ pub fn write(line: &mut [i32; 2112], at: usize, s: Value) -> usize
     requires { ⌜ (at < 2112) × (natAbs (s .n) ≤ M) ⌝ }
     ensures { λ r. ⌜ (r < 2112) × (ring r (now (line .exit)) ≡ s .n ∷ take 2111 (ring at (now (line .entry)))) ⌝ }
 {
-    let x = s.n as i32;
-    let l: &mut [i32] = line;
-    l[at] = x;
+    samples::write(line, at, s);
     if at == 2_111 { 0 } else { at + 1 }
 }
