@@ -1,38 +1,13 @@
 // A block: the input is copied to the output, which is then rendered in place, an output for each input.
-// One loop renders, for blocks and for the waits of a score.
+// Both refusals come before anything is done.
 ghost use mathlib.Core.Path.{_≡_};
-ghost use Prim.Native.Nat.{_≤_};
 ghost use lib.ListN.{length};
-ghost use Rattle.integer.specs.Rounding.{M};
-ghost use Rattle.samples.specs.Samples.{loudest};
 ghost use Rattle.rule.specs.Calls.{block as Block};
-ghost use Rattle.rule.specs.State.{blockAfter, blockOut};
-ghost use Rattle.parts.specs.Struct.{stateOf};
 ghost use Rattle.parts.specs.Valid.{Valid};
 ghost use Rattle.parts.specs.Called.{On, lent};
 use parts::Answer;
 use parts::Head;
-use step::step;
-
-// Each sample of the buffer is an input, and becomes the output.
-pub fn render(line: &mut [i32; 2112], h: Head, buffer: &mut [i32]) -> Head
-    requires { ⌜ Valid h (now line) × (loudest (now buffer) ≤ M) ⌝ }
-    ensures { λ r. ⌜ stateOf r (now (line .exit)) ≡ blockAfter (stateOf h (now (line .entry))) (now (buffer .entry)) ⌝ }
-    ensures { λ r. ⌜ now (buffer .exit) ≡ blockOut (stateOf h (now (line .entry))) (now (buffer .entry)) ⌝ }
-    ensures { λ r. ⌜ Valid r (now (line .exit)) ⌝ }
-{
-    let mut head = h;
-    let mut i = 0;
-    while i < buffer.len() {
-        let x = samples::read(buffer, i);
-        let r = step(line, head, x);
-        let y = r.y;
-        samples::write(buffer, i, y);
-        head = r.head;
-        i = i + 1;
-    }
-    head
-}
+use render::render;
 
 // A block of samples: an output for each input.
 pub fn block(line: &mut [i32; 2112], head: Head, input: &[i32], output: &mut [i32]) -> Answer

@@ -133,7 +133,7 @@ fn follow(line: &mut [i32; 2112], head: Head, r: &[u32; 9], buffer: &mut [i32]) 
         ≡ puts (stateOf head (now (line .entry))) (recordCalls (now (r .entry)) (stateOf head (now (line .entry)))) ⌝ }
 {
     samples::clear(buffer);
-    let h = block::render(line, head, buffer);
+    let h = render::render(line, head, buffer);
     act(line, h, r)
 }
 

@@ -1,5 +1,5 @@
 pub mod Filters
 pub mod Machine
 pub mod Settles
+pub mod Silent
 pub mod Steps
-pub mod Ticks

@@ -1,23 +1,27 @@
--- A whole sample on a line: what is read of it, and what the ring of the line is afterwards.
+-- A whole sample: what the loop, the pluck and the waiting change make of a voice is the rule's step.
 -- Assumes nothing.
 use mathlib.Core.Path.{_≡_, sym, ap, subst, _∙_}
 use mathlib.Core.List.{List, _∷_}
-use Prim.Native.Nat.{ℕ, _≤_, _<_}
-use lib.IntN.{ℤ}
+use Prim.Native.Nat.{ℕ, _≤_}
+use lib.IntN.{ℤ, pos, _+ℤ_, _*ℤ_}
 use lib.ListN.{take}
-use Rattle.integer.specs.Rounding.{M}
+use Rattle.integer.specs.Rounding.{M, clip, floor}
+use Rattle.integer.proofs.Rounding.{clip-abs}
 use Rattle.allpass.specs.Bounds.{Within, more}
 use Rattle.line.specs.Ring.{ring}
-use Rattle.rule.specs.Voice.{Voice}
+use Rattle.rule.specs.Voice.{Voice, output, written, heard, fedToo, settled, stepped}
 use Rattle.rule.specs.State as Rule
 use Rattle.rule.specs.State.{State, back}
 use Rattle.parts.specs.declared.Waiting.{Waiting}
 use Rattle.parts.specs.declared.Waiting.the-variants.{Idle, Announced}
+use Rattle.parts.specs.declared.Pluck.{Pluck}
 use Rattle.parts.specs.declared.Head.{Head}
-use Rattle.step.specs.declared.Ticked.{Ticked}
+use Rattle.step.specs.declared.Sounded.{Sounded}
+use Rattle.step.specs.declared.Circulated.{Circulated}
+use Rattle.parts.specs.Struct.{waitingOf, voiceOf}
 use Rattle.parts.specs.Valid.{Waiting-valid, Fit, Valid}
 use Rattle.parts.proofs.Within.{take-within}
-use Rattle.step.specs.Sample.{Reads, previewed, Ticks, Steps}
+use Rattle.step.specs.Sample.{Reads, previewed, Sounds, Settles, Circulates, Steps}
 
 -- ---- the length that the eliminator reads at
 previewed-within : (N a : ℕ) (w : Waiting) (L : ℕ) → Waiting-valid N a w → 1 ≤ L → L ≤ 2048
@@ -34,56 +38,80 @@ preview-within {h} f e =
     let t = f .filter in
     rw e (previewed-within N (h .advance) (h .waiting) L (f .waiting) (t .short) (t .long))
 
-reads : (w : Waiting) (L : ℕ) (q : ℕ → ℤ) {g : ℤ} → q (previewed w L) ≡ g → Reads w q g
-reads Idle L q e = tt
-reads (Announced n k) L q e = e
+reads-at : (w : Waiting) (L : ℕ) (q : ℕ → ℤ) {g : ℤ} → q (previewed w L) ≡ g → Reads w q g
+reads-at Idle L q e = tt
+reads-at (Announced n k) L q e = e
+
+pub reads : (h : Head) {m : ℕ} {g : ℤ} (q : ℕ → ℤ) → m ≡ previewed (h .waiting) (h .filter .tuning .length)
+    → g ≡ q m → Reads (h .waiting) q g
+reads h q e i = reads-at (h .waiting) (h .filter .tuning .length) q (ap q (sym e) ∙ sym i)
 
 -- ---- a step
-abbrev pub placed : Head → ℕ → Head
-placed h at = record {
-  filter = h .filter;
+-- h after a sample of the loop, with p left of its pluck; what waits is told beside it
+abbrev pub heardOf : Head → Circulated → Pluck → Head
+heardOf h r p = record {
+  filter = r .filter;
   loss = h .loss;
   advance = h .advance;
-  last = h .last;
-  waiting = h .waiting;
-  pluck = h .pluck;
-  at = at;
-}
-
-pub placed-fit : {h : Head} {at : ℕ} → Fit h → at < 2112 → Fit (placed h at)
-placed-fit f k = record {
-  filter = f .filter;
-  loss = f .loss;
-  advance = f .advance;
-  last = f .last;
-  waiting = f .waiting;
-  pluck = f .pluck;
-  at = k;
+  last = r .y;
+  waiting = Idle;
+  pluck = p;
+  at = r .at;
 }
 
 state-as : {v u : Voice} {l k : List ℤ} → v ≡ u → l ≡ k
     → _≡_ {A = State} (record { voice = v; line = l }) (record { voice = u; line = k })
 state-as e i = rw (e, i)
 
-module _ {h : Head} {l : List ℤ} (v : Valid h l) {x f g : ℤ} {t : Ticked} (z : Ticks h x f g t) where
+module _ {h : Head} {l : List ℤ} (v : Valid h l) {x : ℤ} {p : Sounded} {r : Circulated} {k : List ℤ}
+    (o : Sounds (h .pluck) p)
+    (c : Circulates (h .filter) (h .loss) (h .last .n) (h .at) l x (p .noise .n) r k) where
   abbrev q : ℕ → ℤ
   q = back (ring (h .at) l)
 
-  -- with what was read at L and at m, and what was written
-  pub steps : {m at : ℕ} {k : List ℤ} → f ≡ q (h .filter .tuning .length)
-      → m ≡ previewed (h .waiting) (h .filter .tuning .length) → g ≡ q m
-      → at < 2112 → ring at k ≡ t .s .n ∷ take 2111 (ring (h .at) l)
-      → Steps h l x (record { y = t .y; head = placed (t .head) at }) k
-  unfolding Rule.step Rule.sounds
-  steps e p i a w = record {
-    y = z .y q (sym e);
-    small = z .small .0;
+  pub heard-fit : Fit (heardOf h r (p .rest))
+  heard-fit = record {
+    filter = c .hears .moved .tuned;
+    loss = v .fit .loss;
+    advance = v .fit .advance;
+    last = c .hears .small;
+    waiting = tt;
+    pluck = o .plucked;
+    at = c .place;
+  }
+
+  pub heard-waiting : Waiting-valid (r .filter .tuning .order) (h .advance) (h .waiting)
+  heard-waiting = rw (c .hears .moved .tuning) (v .fit .waiting)
+
+  heard-y : r .y .n ≡ output (voiceOf h) q
+  unfolding output
+  heard-y = c .hears .y
+
+  heard-voice : voiceOf (heardOf h r (p .rest)) ≡ heard (voiceOf h) q
+  heard-voice = rw (← heard-y, c .hears .moved .state, c .hears .moved .tuning, o .rest)
+
+  heard-line : ring (r .at) k ≡ written (voiceOf h) q x ∷ take 2111 (ring (h .at) l)
+  unfolding written
+  heard-line = rw (← heard-y, ← o .value) (c .line)
+
+  line-within : Within M (ring (r .at) k)
+  line-within =
+      let b = floor (pos (h .loss) *ℤ (r .y .n +ℤ h .last .n) +ℤ pos 65536) 131072 in
+      subst (λ (l : List ℤ). Within M l) (sym (c .line))
+      (more (clip-abs ((x +ℤ p .noise .n) +ℤ b)) (take-within 2111 (v .line)))
+
+  pub steps : {g : ℤ} {n : Head} → Reads (h .waiting) q g → Settles (heardOf h r (p .rest)) (h .waiting) g n
+      → Steps h l x (record { y = r .y; head = n }) k
+  unfolding Rule.step Rule.sounds stepped
+  steps {n = n} e z = record {
+    y = heard-y;
+    small = c .hears .small;
     state =
-        let r = reads (h .waiting) (h .filter .tuning .length) q (ap q (sym p) ∙ sym i) in
-        let s = ap (λ (s : ℤ). s ∷ take 2111 (ring (h .at) l)) (z .s q (sym e)) in
-        state-as (z .voice q (sym e) r) (w ∙ s);
+        state-as
+        (z .voice q e ∙ ap (λ (v : Voice). settled v (fedToo (waitingOf (h .waiting)) q)) heard-voice)
+        (ap (λ (at : ℕ). ring at k) (z .place) ∙ heard-line);
     valid = record {
-      fit = placed-fit (z .fit) a;
-      line = subst (λ (l : List ℤ). Within M l) (sym w) (more (z .small .1) (take-within 2111 (v .line)));
+      fit = z .fit;
+      line = subst (λ (at : ℕ). Within M (ring at k)) (sym (z .place)) line-within;
     };
   }

@@ -1,13 +1,16 @@
 -- What the parts of one sample make of the numbers read from the line, in the terms of the sample rule.
 -- `q` reads the samples written so far: `q k` is s(n − k). Definitions alone. Assumes nothing.
 use mathlib.Core.Path.{_≡_}
-use mathlib.Core.List.{List}
-use Prim.Native.Nat.{ℕ, _≤_, _^_}
-use lib.IntN.{ℤ, natAbs}
-use Rattle.integer.specs.Rounding.{M}
+use mathlib.Core.List.{List, _∷_}
+use Prim.Native.Nat.{ℕ, _≤_, _<_, _^_}
+use lib.IntN.{ℤ, pos, natAbs, _+ℤ_, _*ℤ_}
+use lib.ListN.{take}
+use Rattle.integer.specs.Rounding.{M, clip, floor}
 use Rattle.allpass.specs.Allpass.{next, out, run}
-use Rattle.rule.specs.Voice.{A, noise, spent, output, written, fedToo, settled, stepped}
+use Rattle.line.specs.Ring.{ring}
+use Rattle.rule.specs.Voice.{A, noise, spent, fedToo, settled}
 use Rattle.rule.specs.State as Rule
+use Rattle.rule.specs.State.{back}
 use Rattle.parts.specs.declared.Filter.{Filter}
 use Rattle.parts.specs.declared.Waiting.{Waiting}
 use Rattle.parts.specs.declared.Waiting.the-variants.{Idle, Announced}
@@ -15,7 +18,7 @@ use Rattle.parts.specs.declared.Pluck.{Pluck}
 use Rattle.parts.specs.declared.Head.{Head}
 use Rattle.step.specs.declared.Heard.{Heard}
 use Rattle.step.specs.declared.Sounded.{Sounded}
-use Rattle.step.specs.declared.Ticked.{Ticked}
+use Rattle.step.specs.declared.Circulated.{Circulated}
 use Rattle.step.specs.declared.Stepped.{Stepped}
 use Rattle.parts.specs.Struct.{tuningOf, filterOf, waitingOf, pluckOf, voiceOf, stateOf}
 use Rattle.parts.specs.Valid.{Tuned, Plucked, Fit, Valid}
@@ -61,18 +64,15 @@ pub record Settles (h : Head) (w : Waiting) (g : ℤ) (r : Head) : Type 0 where
   pub fit : Fit r
   pub place : r .at ≡ h .at
 
--- a whole sample with input x, of which the filter reads f and the eliminator g
-pub record Ticks (h : Head) (x f g : ℤ) (r : Ticked) : Type 0 where
-  pub y : (q : ℕ → ℤ) → q (h .filter .tuning .length) ≡ f → r .y .n ≡ output (voiceOf h) q
-  pub s : (q : ℕ → ℤ) → q (h .filter .tuning .length) ≡ f → r .s .n ≡ written (voiceOf h) q x
-  pub voice :
-      (q : ℕ → ℤ) → q (h .filter .tuning .length) ≡ f → Reads (h .waiting) q g
-      → voiceOf (r .head) ≡ stepped (voiceOf h) q
-  pub small : (natAbs (r .y .n) ≤ M) × (natAbs (r .s .n) ≤ M)
-  pub fit : Fit (r .head)
-  pub place : r .head .at ≡ h .at
+-- the loop on the line l, which it leaves as k: the filter f takes s(n − L), and s(n) is the line's newest sample
+pub record Circulates (f : Filter) (G : ℕ) (last : ℤ) (at : ℕ) (l : List ℤ) (x noise : ℤ)
+    (r : Circulated) (k : List ℤ) : Type 0 where
+  pub hears : Hears f (back (ring at l) (f .tuning .length)) (record { y = r .y; filter = r .filter })
+  pub place : r .at < 2112
+  pub line : ring (r .at) k
+      ≡ clip ((x +ℤ noise) +ℤ floor (pos G *ℤ (r .y .n +ℤ last) +ℤ pos 65536) 131072) ∷ take 2111 (ring at l)
 
--- the same on the line l, which it leaves as k
+-- a whole sample with input x on the line l, which it leaves as k
 pub record Steps (h : Head) (l : List ℤ) (x : ℤ) (r : Stepped) (k : List ℤ) : Type 0 where
   pub y : r .y .n ≡ Rule.sounds (stateOf h l)
   pub small : natAbs (r .y .n) ≤ M

@@ -1,11 +1,13 @@
-// One sample of the voice: two reads of the line, a pure step on numbers, and one store.
+// One sample of the voice: the loop's filter and store, the eliminator, and the noise of a pluck.
 // The line is lent, never copied. Each function makes one part of document 01's four steps.
 ghost use mathlib.Core.Path.{_≡_};
-ghost use Prim.Native.Nat.{_≤_, _^_};
+ghost use Prim.Native.Nat.{_≤_, _<_, _^_};
 ghost use lib.IntN.{pos, natAbs, _+ℤ_, _*ℤ_};
 ghost use Rattle.integer.specs.Rounding.{M, floor, clip as Clip};
 ghost use Rattle.parts.specs.Valid.{Tuned, Waiting-valid, Plucked, Fit, Valid};
-ghost use Rattle.step.specs.Sample.{Moved, Hears, Sounds, Settles, Ticks, Steps, previewed};
+ghost use Rattle.allpass.specs.Bounds.{Within};
+ghost use Rattle.line.specs.Ring.{ring};
+ghost use Rattle.step.specs.Sample.{Moved, Hears, Sounds, Settles, Circulates, Steps, previewed};
 use allpass::filter::allpass;
 use allpass::filter::eliminate;
 use integer::Value;
@@ -29,10 +31,11 @@ pub struct Sounded {
     pub rest: Pluck,
 }
 
-pub struct Ticked {
+// at is the place of the next sample.
+pub struct Circulated {
     pub y: Value,
-    pub s: Value,
-    pub head: Head,
+    pub filter: Filter,
+    pub at: usize,
 }
 
 pub struct Stepped {
@@ -160,33 +163,30 @@ fn settled(h: Head, w: Waiting, g: Value) -> Head
     }
 }
 
-// One sample with input x, of which the filter reads f and the eliminator g.
-fn tick(h: Head, x: Value, f: Value, g: Value) -> Ticked
-    requires { ⌜ Fit h × (natAbs (x .n) ≤ M) × (natAbs (f .n) ≤ M) × (natAbs (g .n) ≤ M) ⌝ }
-    ensures { λ r. ⌜ Ticks h (x .n) (f .n) (g .n) r ⌝ }
+// One sample of the loop, with input x and a noise sample: the filter takes s(n − L), and s(n) goes into the line.
+pub fn circulate(
+    line: &mut [i32; 2112],
+    f: Filter,
+    loss: u32,
+    last: Value,
+    at: usize,
+    x: Value,
+    noise: Value,
+) -> Circulated
+    requires { ⌜ Tuned f × (loss ≤ 65535) × (natAbs (last .n) ≤ M) × (at < 2112) × Within M (ring at (now line)) ⌝ }
+    requires { ⌜ (natAbs (x .n) ≤ M) × (natAbs (noise .n) ≤ 2 ^ 23) ⌝ }
+    ensures { λ r. ⌜ Circulates f loss (last .n) at (now (line .entry)) (x .n) (noise .n) r (now (line .exit)) ⌝ }
 {
-    let o = hear(h.filter, f);
+    let a = line::read(line, at, f.tuning.length as usize);
+    let o = hear(f, a);
     let y = o.y;
-    let p = sound(h.pluck);
-    let noise = p.noise;
-    let s = mixed(x, noise, looped(h.loss, y, h.last));
-    let filter = o.filter;
-    let rest = p.rest;
-    let w = h.waiting;
-    let n = Head {
-        filter: filter,
-        loss: h.loss,
-        advance: h.advance,
-        last: y,
-        waiting: Waiting::Idle,
-        pluck: rest,
-        at: h.at,
-    };
-    let head = settled(n, w, g);
-    Ticked {
+    let s = mixed(x, noise, looped(loss, y, last));
+    let next = line::write(line, at, s);
+    let n = o.filter;
+    Circulated {
         y: y,
-        s: s,
-        head: head,
+        filter: n,
+        at: next,
     }
 }
 
@@ -206,12 +206,23 @@ pub fn step(line: &mut [i32; 2112], h: Head, x: Value) -> Stepped
     requires { ⌜ Valid h (now line) × (natAbs (x .n) ≤ M) ⌝ }
     ensures { λ r. ⌜ Steps h (now (line .entry)) (x .n) r (now (line .exit)) ⌝ }
 {
-    let f = line::read(line, h.at, h.filter.tuning.length as usize);
     let g = line::read(line, h.at, preview(h));
-    let t = tick(h, x, f, g);
-    let s = t.s;
-    let y = t.y;
-    let mut head = t.head;
-    head.at = line::write(line, h.at, s);
+    let p = sound(h.pluck);
+    let noise = p.noise;
+    let r = circulate(line, h.filter, h.loss, h.last, h.at, x, noise);
+    let y = r.y;
+    let filter = r.filter;
+    let rest = p.rest;
+    let w = h.waiting;
+    let n = Head {
+        filter: filter,
+        loss: h.loss,
+        advance: h.advance,
+        last: y,
+        waiting: Waiting::Idle,
+        pluck: rest,
+        at: r.at,
+    };
+    let head = settled(n, w, g);
     Stepped { y: y, head: head }
 }

@@ -12,15 +12,12 @@ use Rattle.noise.proofs.Sizes.{next-size, value-size}
 use Rattle.rule.specs.Voice.{noise, spent}
 use Rattle.parts.specs.declared.Pluck.{Pluck}
 use Rattle.parts.specs.Struct.{pluckOf}
+use Rattle.step.proofs.Silent.{sounds-none}
 use Rattle.step.proofs.sound.Statement.{statement}
 use Rattle.step.proofs.sound.Tie as tie
 
 returns : tie.Need-returns
-unfolding noise spent
-returns c =
-    let e = c .if1 .taken in
-    let z = c .before .before .pre .none-left e in
-    record { value = rw e; small = omega arith; rest = rw (e, z .0, z .1); plucked = c .before .before .pre }
+returns c = sounds-none (c .before .before .pre) (c .if1 .taken)
 
 draw-requires : tie.Need-draw-requires
 draw-requires c κs = search needs

@@ -1,4 +1,4 @@
--- A buffer that is rendered in place, from the front: what is left to do makes what the whole block makes.
+-- Laws of a buffer that is rendered in place: its start, one sample more, and its end.
 -- Assumes nothing.
 use mathlib.Core.Path.{_≡_, refl, sym, ap, subst, _∙_}
 use mathlib.Core.List.{List, [], _∷_, _++_, append-assoc, append-nil}
@@ -11,14 +11,7 @@ use lib.Seq.{drop-cons, drop-set-lt, take-suc-set, take-all, drop-length}
 use Rattle.integer.specs.Rounding.{M}
 use Rattle.samples.specs.Samples.{loudest}
 use Rattle.rule.specs.State.{State, step, sounds, blockAfter, blockOut}
-
--- xs are the inputs and v the voice at the start; b is the buffer and u the voice once i of them are rendered
-pub record Rendered (xs : List ℤ) (v : State) (b : List ℤ) (u : State) (i : ℕ) : Type 0 where
-  pub within : i ≤ length xs
-  pub long : length b ≡ length xs
-  pub left : blockAfter u (drop i b) ≡ blockAfter v xs
-  pub out : take i b ++ blockOut u (drop i b) ≡ blockOut v xs
-  pub quiet : loudest (drop i b) ≤ M
+use Rattle.render.specs.Rendered.{Rendered}
 
 pub begun : (xs : List ℤ) (v : State) → loudest xs ≤ M → Rendered xs v xs v 0
 begun xs v h = record { within = omega arith; long = refl; left = refl; out = refl; quiet = h }

@@ -1,0 +1,96 @@
+-- What a sample makes of a head that a loop carries on: a step of the rule, and a head of the same form.
+-- Assumes nothing.
+use mathlib.Core.Path.{_≡_, refl, sym, ap, subst, _∙_}
+use mathlib.Core.Bool.{Bool, true, false, cond, false≢true}
+use mathlib.Core.List.{List}
+use Prim.Native.Nat.{ℕ, _+_, _<_}
+use native.Mathlib.Omega.{arith}
+use borrow.Author.Tests.{eq-eqb, ne-eqb}
+use lib.Dec.{eqb}
+use lib.IntN.{ℤ, pos}
+use store.Seg.{eqb→≡}
+use Rattle.integer.specs.declared.Value.{Value}
+use Rattle.thiran.specs.declared.formula.Coefficients.{Coefficients}
+use Rattle.thiran.specs.Coefficients.{coefficients}
+use Rattle.thiran.specs.Answers.{padded}
+use Rattle.allpass.specs.declared.State.{State}
+use Rattle.line.specs.Ring.{ring}
+use Rattle.rule.specs.State.{back}
+use Rattle.parts.specs.declared.Tuning.{Tuning}
+use Rattle.parts.specs.declared.Filter.{Filter}
+use Rattle.parts.specs.declared.Waiting.{Waiting}
+use Rattle.parts.specs.declared.Waiting.the-variants.{Idle, Announced}
+use Rattle.parts.specs.declared.Head.{Head}
+use Rattle.parts.specs.Struct.{withOf}
+use Rattle.parts.specs.Valid.{Tuned, Valid}
+use Rattle.step.specs.declared.Circulated.{Circulated}
+use Rattle.step.specs.Sample.{Moved, Settles, Circulates, Steps}
+use Rattle.step.proofs.Silent.{sounds-none}
+use Rattle.step.proofs.Settles.{settles-idle, settles-now, settles-later}
+use Rattle.step.proofs.Steps.{heard-fit, heard-waiting, steps}
+use Rattle.render.specs.Carried.{anewOf, carriedOf, dueOf}
+
+-- ---- filters
+-- a filter of the same tuning is f with its state
+pub as-anew : {N : ℕ} (f : Filter) {g : Filter} {v : State} → Tuned (anewOf N f v) → Tuned g
+    → g .tuning ≡ anewOf N f v .tuning → g ≡ anewOf N f (g .state)
+as-anew {N} f {g} t k e =
+    let same =
+    k .coefficients-are
+    ∙ ap (λ (t : Tuning). padded (coefficients (t .order) (t .delay))) e
+    ∙ sym (t .coefficients-are) in
+    ap (λ (t : Tuning). record { tuning = t; coefficients = g .coefficients; state = g .state }) e
+    ∙ ap (λ (c : Coefficients). record { tuning = anewOf N f (g .state) .tuning; coefficients = c; state = g .state })
+    same
+
+pub anew-self : {N : ℕ} (f : Filter) → N ≡ f .tuning .order → anewOf N f (f .state) ≡ f
+anew-self f e = rw e
+
+-- ---- with nothing waiting
+pub carried-self : {f : Filter} (h : Head) → f ≡ h .filter → h .waiting ≡ Idle
+    → carriedOf h f (h .last) (h .at) ≡ h
+carried-self h e w =
+    ap (λ (f : Filter). carriedOf h f (h .last) (h .at)) e ∙ ap (λ (x : Waiting). withOf h (h .filter) x) (sym w)
+
+module _ (h : Head) {f : Filter} {y : Value} {at : ℕ} {l : List ℤ} {x : ℤ} {r : Circulated} {k : List ℤ}
+    (z : h .pluck .left ≡ 0) (c : Circulates f (h .loss) (y .n) at l x (pos 0) r k) where
+  pub quiet-steps : Valid (carriedOf h f y at) l
+      → Steps (carriedOf h f y at) l x (record { y = r .y; head = carriedOf h (r .filter) (r .y) (r .at) }) k
+  quiet-steps v =
+      let o = sounds-none (v .fit .pluck) z in
+      steps v o c {g = pos 0} tt (settles-idle (heard-fit v o c))
+
+  -- ---- with a change that waits
+  module _ {e n : Filter} {t : ℕ} (m : Moved e (back (ring at l) (e .tuning .length)) n)
+      (v : Valid (withOf (carriedOf h f y at) f (Announced e t)) l) where
+    settles : (b : Bool) → eqb (t + 1) (h .advance) ≡ b
+        → Settles (carriedOf h (r .filter) (r .y) (r .at)) (Announced e t) (back (ring at l) (e .tuning .length))
+        (cond b (withOf (carriedOf h (r .filter) (r .y) (r .at)) n Idle)
+        (withOf (carriedOf h (r .filter) (r .y) (r .at)) (r .filter) (Announced n (t + 1))))
+    settles true i =
+        let o = sounds-none (v .fit .pluck) z in
+        settles-now (heard-fit v o c) (heard-waiting v o c) m (eqb→≡ (t + 1) (h .advance) i)
+    settles false i =
+        let o = sounds-none (v .fit .pluck) z in
+        settles-later (heard-fit v o c) (heard-waiting v o c) m (λ j. absurd (false≢true (sym i ∙ eq-eqb (t + 1) (h .advance) j)))
+
+    pub led-steps : Steps (withOf (carriedOf h f y at) f (Announced e t)) l x
+        (record { y = r .y; head = dueOf (carriedOf h (r .filter) (r .y) (r .at)) n (t + 1) }) k
+    led-steps =
+        let o = sounds-none (v .fit .pluck) z in
+        steps v o c {g = back (ring at l) (e .tuning .length)} refl (settles (eqb (t + 1) (h .advance)) refl)
+
+-- ---- a change that waits
+pub due-later : (h : Head) (e : Filter) (k : ℕ) → k < h .advance
+    → dueOf h e k ≡ withOf h (h .filter) (Announced e k)
+due-later h e k i = rw (ne-eqb k (h .advance) (λ z. omega arith))
+
+pub due-self : {N : ℕ} {e : Filter} {t k : ℕ} (h : Head) → N ≡ h .filter .tuning .order → N ≡ e .tuning .order
+    → h .waiting ≡ Announced e t → k ≡ t → t < h .advance
+    → dueOf (carriedOf h (anewOf N (h .filter) (h .filter .state)) (h .last) (h .at)) (anewOf N e (e .state)) k ≡ h
+due-self {N} {e} {t} {k} h i j w z fewer =
+    let f = anewOf N (h .filter) (h .filter .state) in
+    let waits = ap (λ (n : ℕ). Announced (anewOf N e (e .state)) n) z ∙ ap (λ (e : Filter). Announced e t) (anew-self e j) in
+    due-later (carriedOf h f (h .last) (h .at)) (anewOf N e (e .state)) k (omega arith)
+    ∙ ap (λ (f : Filter). withOf h f (Announced (anewOf N e (e .state)) k)) (anew-self (h .filter) i)
+    ∙ ap (λ (x : Waiting). withOf h (h .filter) x) (waits ∙ sym w)

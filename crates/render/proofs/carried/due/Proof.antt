@@ -1,0 +1,31 @@
+-- `render::carried::due` meets its contract: by whether the eliminator has taken enough.
+-- Assumes nothing.
+use mathlib.Core.Path.{sym, ap, _∙_}
+use mathlib.Core.Bool.{Bool, cond}
+use borrow.Author.Needs.{needs}
+use borrow.Author.Tests.{eq-eqb, ne-eqb}
+use Rattle.parts.specs.declared.Waiting.the-variants.{Idle, Announced}
+use Rattle.parts.specs.Struct.{withOf}
+use Rattle.render.proofs.carried.due.Statement.{statement}
+use Rattle.render.proofs.carried.due.Tie as tie
+
+with-requires : tie.Need-with-requires
+with-requires c κs = search needs
+
+returns : tie.Need-returns
+returns c =
+    let s = c .before .before .before in
+    let a = s .args in
+    rw (eq-eqb (a .taken) (a .h .advance) (c .before .if1 .taken)) (c .with .ensures)
+
+with-requires-2 : tie.Need-with-requires-2
+with-requires-2 c κs = search needs
+
+returns-2 : tie.Need-returns-2
+returns-2 c =
+    let s = c .before .before .before .before in
+    let a = s .args in
+    rw (ne-eqb (a .taken) (a .h .advance) (c .before .before .if1 .left)) (c .with2 .ensures)
+
+pub due-spec : {M : Type 1} → statement M
+due-spec = tie.close (tie.spec with-requires returns with-requires-2 returns-2)

@@ -1,0 +1,114 @@
+-- `render::sounding` meets its contract: the invariant is `Rendered`, with a voice that stays valid.
+-- Assumes nothing.
+use mathlib.Core.Path.{_≡_, sym, ap, subst, _∙_}
+use mathlib.Core.List.{List}
+use Prim.Native.Nat.{ℕ, _+_, _-_, _≤_, _<_}
+use native.Mathlib.Omega.{arith}
+use borrow.Author.Needs.{needs}
+use lib.IntN.{ℤ, natAbs}
+use lib.ListN.{length}
+use Rattle.integer.specs.Rounding.{M}
+use Rattle.rule.specs.State.{State, step}
+use Rattle.parts.specs.Struct.{stateOf}
+use Rattle.parts.specs.Valid.{Valid}
+use Rattle.render.specs.Rendered.{Rendered}
+use Rattle.render.proofs.Rendered.{begun, sample, rendered}
+use Rattle.render.proofs.sounding.Statement.{statement}
+use Rattle.render.proofs.sounding.Tie as tie
+
+abbrev Inv-loop : tie.InvT-loop
+Inv-loop line₀ buffer₀ head₀ i₀ line buffer head i =
+    Rendered buffer₀ (stateOf head₀ line₀) buffer (stateOf head line) i × Valid head line
+
+abbrev μ-loop : tie.MeasureT-loop
+μ-loop line₀ buffer₀ head₀ i₀ line buffer head i = length buffer₀ - i
+
+loop-holds : tie.Need-loop-holds Inv-loop μ-loop
+loop-holds c = (begun (c .args .buffer .now) (stateOf (c .args .h) (c .args .line .now)) (c .pre .1), c .pre .0)
+
+read-requires : tie.Need-read-requires Inv-loop μ-loop
+read-requires c κs = search needs
+
+step-requires : tie.Need-step-requires Inv-loop μ-loop
+step-requires c κs =
+    let l = c .before .before .before .before .loop in
+    let s = c .before .before .before .before .before .args in
+    let r =
+    sample (s .buffer .now) (stateOf (s .h) (s .line .now)) (l .buffer) (stateOf (l .head) (l .line)) (l .i) (l .inv .0)
+    (c .before .before .before .loop-test .taken) in
+    (l .inv .1, subst (λ (z : ℤ). natAbs z ≤ M) (sym (c .before .read .ensures)) r)
+
+write-requires : tie.Need-write-requires Inv-loop μ-loop
+write-requires c κs = (c .before .before .before .before .before .before .loop-test .taken, c .before .before .step .ensures .small)
+
+add-i : tie.Need-add-i Inv-loop μ-loop
+add-i c = search needs
+
+-- a pass of the loop, once its output is stored
+module _ (c : tie.After-write Inv-loop μ-loop) where
+  abbrev stepped : tie.After-step Inv-loop μ-loop
+  stepped = c .before .before .before
+
+  abbrev pass : tie.At-loop Inv-loop μ-loop
+  pass = stepped .before .before .before .before .before
+
+  abbrev begins : State
+  begins = stateOf (pass .before .args .h) (pass .before .args .line .now)
+
+  more : Rendered (pass .before .args .buffer .now) begins (c .write .last .0)
+      (stateOf (stepped .step .result .head) (stepped .step .last .0)) (pass .loop .i + 1)
+      × Valid (stepped .step .result .head) (stepped .step .last .0)
+  more =
+      let l = pass .loop in
+      let xs = pass .before .args .buffer .now in
+      let e = stepped .step .ensures in
+      let u = stateOf (l .head) (l .line) in
+      let w = stateOf (stepped .step .result .head) (stepped .step .last .0) in
+      let n = e .state ∙ ap (λ (x : ℤ). step u x) (stepped .before .before .read .ensures) in (
+        subst (λ (k : List ℤ). Rendered xs begins k w (l .i + 1)) (sym (c .write .ensures))
+            (rendered xs begins (l .buffer) u (l .i) (l .inv .0) (stepped .before .before .before .before .loop-test .taken) w
+            (stepped .step .result .y .n) n (e .y)),
+        e .valid,
+      )
+
+same-length : tie.Need-same-length Inv-loop μ-loop
+same-length c = more (c .before .before .before .before) .0 .long
+
+returns : tie.Need-returns Inv-loop μ-loop
+returns c = let m = more (c .before .before .before .before) in (m .0, (m .1, λ h. omega arith))
+
+loop-less : tie.Need-loop-less Inv-loop μ-loop
+loop-less c =
+    let w = c .before .before .before .before in
+    let i = pass w .loop .inv .0 in
+    omega (arith, i .long, i .within, stepped w .before .before .before .before .loop-test .taken)
+
+loop-again : tie.Need-loop-again Inv-loop μ-loop
+loop-again c = more (c .before .before .before .before)
+
+same-length-2 : tie.Need-same-length-2 Inv-loop μ-loop
+same-length-2 c = c .before .loop .inv .0 .long
+
+returns-2 : tie.Need-returns-2 Inv-loop μ-loop
+returns-2 c =
+    let l = c .before .loop in
+    let i = l .inv .0 in
+    (i, (l .inv .1, λ h. omega (arith, i .long, c .loop-test .left)))
+
+pub sounding-spec : {M : Type 1} → statement M
+sounding-spec =
+    tie.close
+    (tie.spec
+    Inv-loop
+    μ-loop
+    loop-holds
+    read-requires
+    step-requires
+    write-requires
+    add-i
+    same-length
+    returns
+    loop-less
+    loop-again
+    same-length-2
+    returns-2)

@@ -1,0 +1,116 @@
+-- `render::stretch` meets its contract: by what sounds and what waits, the loop that fits.
+-- Assumes nothing.
+use mathlib.Core.Path.{_≡_, refl, sym, ap, subst, _∙_}
+use Prim.Native.Nat.{_+_, _-_, _≤_, _<_}
+use native.Mathlib.Omega.{arith}
+use borrow.Author.Needs.{needs}
+use lib.ListN.{length, take, drop}
+use lib.Seq.{length-take-le}
+use Rattle.parts.specs.declared.Waiting.{Waiting}
+use Rattle.parts.specs.declared.Head.{Head}
+use Rattle.parts.specs.Valid.{Waits, Waiting-valid}
+use Rattle.render.proofs.Joined.{loudest-take, rendered-first}
+use Rattle.render.proofs.stretch.Statement.{statement}
+use Rattle.render.proofs.stretch.Tie as tie
+
+sounding-requires : tie.Need-sounding-requires
+sounding-requires c κs = search needs
+
+same-length : tie.Need-same-length
+same-length c = search needs
+
+returns : tie.Need-returns
+returns c = search needs
+
+enum-told : tie.Need-enum-told
+enum-told c = search needs
+
+steady-requires : tie.Need-steady-requires
+steady-requires c κs = search needs
+
+enum-known-w : tie.Need-enum-known-w
+enum-known-w c = search needs
+
+-- where a change waits: `.given` has its eliminator and how many samples it has taken
+module _ (c : tie.After-w) where
+  abbrev start : tie.Start
+  start = c .before .before .before .before
+
+  abbrev h : Head
+  h = start .args .h
+
+  waits : Waits (h .filter .tuning .order) (h .advance) (c .w .given .0 .0) (c .w .given .0 .1 .0)
+  waits =
+      subst (λ (w : Waiting). Waiting-valid (h .filter .tuning .order) (h .advance) w) (c .w .given .1)
+      (start .pre .0 .fit .waiting)
+
+sub-smaller : tie.Need-sub-smaller
+sub-smaller c = omega (arith, waits (c .before .before) .fewer)
+
+cast-smaller : tie.Need-cast-smaller
+cast-smaller c = search needs
+
+smaller-requires : tie.Need-smaller-requires
+smaller-requires c κs = search needs
+
+slice-relend-prefix-ahead : tie.Need-slice-relend-prefix-ahead
+slice-relend-prefix-ahead c = search needs
+
+slice-aggregate-ahead : tie.Need-slice-aggregate-ahead
+slice-aggregate-ahead c =
+    let m = c .before .before in
+    let s = start (m .before .before .before) in
+    sym (length-take-le (m .smaller .result) (s .args .buffer .now) (m .smaller .ensures .0))
+
+ahead-requires : tie.Need-ahead-requires
+ahead-requires c κs =
+    let m = c .before .before in
+    let a = m .before .before .before in
+    let s = start a in
+    let b = s .args .buffer .now in
+    let n = m .smaller .result in
+    let l = length-take-le n b (m .smaller .ensures .0) in (
+      (s .pre .0, loudest-take n b (s .pre .1), omega (arith, l, m .smaller .ensures .1, waits a .fewer)),
+      (a .w .given .1, a .before .before .if1 .left),
+    )
+
+same-length-2 : tie.Need-same-length-2
+same-length-2 c = search needs
+
+returns-2 : tie.Need-returns-2
+returns-2 c = search needs
+
+same-length-3 : tie.Need-same-length-3
+same-length-3 c = search needs
+
+returns-3 : tie.Need-returns-3
+returns-3 c =
+    let k = c .before in
+    let m = k .before .before .before in
+    let a = m .before .before .before in
+    let s = start a in
+    let e = m .smaller .ensures in (
+      rendered-first (s .args .buffer .now) (m .smaller .result) (e .0) (s .pre .1) (k .ahead .ensures .0),
+      (k .ahead .ensures .1, λ h. e .2 h (omega (arith, waits a .fewer))),
+    )
+
+pub stretch-spec : {M : Type 1} → statement M
+stretch-spec =
+    tie.close
+    (tie.spec
+    sounding-requires
+    same-length
+    returns
+    enum-told
+    steady-requires
+    enum-known-w
+    sub-smaller
+    cast-smaller
+    smaller-requires
+    slice-relend-prefix-ahead
+    slice-aggregate-ahead
+    ahead-requires
+    same-length-2
+    returns-2
+    same-length-3
+    returns-3)

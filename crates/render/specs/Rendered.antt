@@ -1,0 +1,18 @@
+-- A buffer that is rendered in place, from the front: what is left to do makes what the whole block makes.
+-- Definitions alone. Assumes nothing.
+use mathlib.Core.Path.{_≡_}
+use mathlib.Core.List.{List, _++_}
+use Prim.Native.Nat.{ℕ, _≤_}
+use lib.IntN.{ℤ}
+use lib.ListN.{length, take, drop}
+use Rattle.integer.specs.Rounding.{M}
+use Rattle.samples.specs.Samples.{loudest}
+use Rattle.rule.specs.State.{State, blockAfter, blockOut}
+
+-- xs are the inputs and v the voice at the start; b is the buffer and u the voice once i of them are rendered
+pub record Rendered (xs : List ℤ) (v : State) (b : List ℤ) (u : State) (i : ℕ) : Type 0 where
+  pub within : i ≤ length xs
+  pub long : length b ≡ length xs
+  pub left : blockAfter u (drop i b) ≡ blockAfter v xs
+  pub out : take i b ++ blockOut u (drop i b) ≡ blockOut v xs
+  pub quiet : loudest (drop i b) ≤ M

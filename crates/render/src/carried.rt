@@ -1,0 +1,55 @@
+// What is kept of a voice in a loop over its samples, and the head that it makes.
+// A filter's order is passed beside it, so that a loop that is called with a number there is compiled for that order.
+ghost use mathlib.Core.Path.{_≡_};
+ghost use Rattle.render.specs.Carried.{anewOf, carriedOf, dueOf};
+use allpass::State;
+use integer::Value;
+use parts::Filter;
+use parts::Head;
+use parts::Tuning;
+use parts::Waiting;
+use parts::with;
+
+// f, in an order that is its own, with another state.
+pub fn anew(order: u32, f: Filter, v: State) -> Filter
+    ensures { λ r. ⌜ r ≡ anewOf order f v ⌝ }
+{
+    let t = Tuning {
+        order: order,
+        length: f.tuning.length,
+        delay: f.tuning.delay,
+    };
+    let c = f.coefficients;
+    Filter {
+        tuning: t,
+        coefficients: c,
+        state: v,
+    }
+}
+
+// h after some samples in which no pluck sounds; what waits is told beside it.
+pub fn carried(h: Head, f: Filter, last: Value, at: usize) -> Head
+    ensures { λ r. ⌜ r ≡ carriedOf h f last at ⌝ }
+{
+    let p = h.pluck;
+    Head {
+        filter: f,
+        loss: h.loss,
+        advance: h.advance,
+        last: last,
+        waiting: Waiting::Idle,
+        pluck: p,
+        at: at,
+    }
+}
+
+// h with a change to the eliminator e, in force once it has taken as many samples as the advance.
+pub fn due(h: Head, e: Filter, taken: u32) -> Head
+    ensures { λ r. ⌜ r ≡ dueOf h e taken ⌝ }
+{
+    if taken == h.advance {
+        return with(h, e, Waiting::Idle);
+    }
+    let f = h.filter;
+    with(h, f, Waiting::Announced(e, taken))
+}

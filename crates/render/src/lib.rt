@@ -1,0 +1,110 @@
+// Rendering in place: each sample of a buffer is an input, and becomes the output, for blocks and the waits of a score.
+// A buffer is rendered in stretches, each by the loop that fits what waits and what sounds.
+ghost use mathlib.Core.Path.{_≡_};
+ghost use Prim.Native.Nat.{_≤_, _<_};
+ghost use lib.ListN.{length};
+ghost use Rattle.integer.specs.Rounding.{M};
+ghost use Rattle.samples.specs.Samples.{loudest};
+ghost use Rattle.rule.specs.State.{blockAfter, blockOut};
+ghost use Rattle.parts.specs.Struct.{stateOf};
+ghost use Rattle.parts.specs.Valid.{Valid};
+ghost use Rattle.render.specs.Rendered.{Rendered};
+use crate::loops::ahead;
+use crate::loops::steady;
+use parts::Head;
+use parts::Waiting;
+use step::step;
+
+mod carried;
+mod loops;
+
+// A voice once the first samples of a buffer are rendered, so many as are done.
+pub struct Part {
+    pub head: Head,
+    pub done: usize,
+}
+
+// Renders samples until no pluck sounds, one at least; a change may wait.
+fn sounding(line: &mut [i32; 2112], h: Head, buffer: &mut [i32]) -> Part
+    requires { ⌜ Valid h (now line) × (loudest (now buffer) ≤ M) ⌝ }
+    ensures { λ r. ⌜ Rendered (now (buffer .entry)) (stateOf h (now (line .entry))) (now (buffer .exit))
+        (stateOf (r .head) (now (line .exit))) (r .done) ⌝ }
+    ensures { λ r. ⌜ Valid (r .head) (now (line .exit)) ⌝ }
+    ensures { λ r. ⌜ (0 < length (now (buffer .entry)) → 0 < r .done) ⌝ }
+{
+    let mut head = h;
+    let mut i = 0;
+    while i < buffer.len() {
+        let x = samples::read(buffer, i);
+        let r = step(line, head, x);
+        let y = r.y;
+        samples::write(buffer, i, y);
+        head = r.head;
+        i = i + 1;
+        if head.pluck.left == 0 {
+            return Part {
+                head: head,
+                done: i,
+            };
+        }
+    }
+    Part {
+        head: head,
+        done: i,
+    }
+}
+
+fn smaller(a: usize, b: usize) -> usize
+    ensures { λ r. ⌜ (r ≤ a) × (r ≤ b) × (0 < a → 0 < b → 0 < r) ⌝ }
+{
+    if a < b { a } else { b }
+}
+
+// Renders as many samples as one loop can, one at least.
+fn stretch(line: &mut [i32; 2112], h: Head, buffer: &mut [i32]) -> Part
+    requires { ⌜ Valid h (now line) × (loudest (now buffer) ≤ M) ⌝ }
+    ensures { λ r. ⌜ Rendered (now (buffer .entry)) (stateOf h (now (line .entry))) (now (buffer .exit))
+        (stateOf (r .head) (now (line .exit))) (r .done) ⌝ }
+    ensures { λ r. ⌜ Valid (r .head) (now (line .exit)) ⌝ }
+    ensures { λ r. ⌜ (0 < length (now (buffer .entry)) → 0 < r .done) ⌝ }
+{
+    if h.pluck.left != 0 {
+        return sounding(line, h, buffer);
+    }
+    let n = buffer.len();
+    let w = h.waiting;
+    match w {
+        Waiting::Idle => {
+            let head = steady(line, h, buffer);
+            Part {
+                head: head,
+                done: n,
+            }
+        }
+        Waiting::Announced(e, taken) => {
+            let done = smaller(n, (h.advance - taken) as usize);
+            let head = ahead(line, h, e, taken, &mut buffer[..done]);
+            Part {
+                head: head,
+                done: done,
+            }
+        }
+    }
+}
+
+// Each sample of the buffer is an input, and becomes the output.
+pub fn render(line: &mut [i32; 2112], h: Head, buffer: &mut [i32]) -> Head
+    requires { ⌜ Valid h (now line) × (loudest (now buffer) ≤ M) ⌝ }
+    ensures { λ r. ⌜ stateOf r (now (line .exit)) ≡ blockAfter (stateOf h (now (line .entry))) (now (buffer .entry)) ⌝ }
+    ensures { λ r. ⌜ now (buffer .exit) ≡ blockOut (stateOf h (now (line .entry))) (now (buffer .entry)) ⌝ }
+    ensures { λ r. ⌜ Valid r (now (line .exit)) ⌝ }
+{
+    let mut head = h;
+    let mut i = 0;
+    while i < buffer.len() {
+        let p = stretch(line, head, &mut buffer[i..]);
+        head = p.head;
+        i = i + p.done;
+    }
+    head
+}

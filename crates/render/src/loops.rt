@@ -1,0 +1,136 @@
+// The loops over a block's samples while no pluck sounds: with nothing waiting, and with a change that waits.
+// State is in locals, and a loop is compiled for each order; what is compared sample by sample is in crate step.
+ghost use mathlib.Core.Path.{_≡_};
+ghost use Prim.Native.Nat.{_+_, _≤_};
+ghost use lib.ListN.{length};
+ghost use Rattle.integer.specs.Rounding.{M};
+ghost use Rattle.samples.specs.Samples.{loudest};
+ghost use Rattle.parts.specs.declared.Waiting.the-variants.{Idle, Announced};
+ghost use Rattle.parts.specs.Struct.{stateOf};
+ghost use Rattle.parts.specs.Valid.{Valid};
+ghost use Rattle.render.specs.Carried.{dueOf};
+ghost use Rattle.render.specs.Rendered.{Rendered};
+use crate::carried::anew;
+use crate::carried::carried;
+use crate::carried::due;
+use integer::Value;
+use parts::Filter;
+use parts::Head;
+use step::circulate;
+use step::moved;
+
+// A head with nothing waiting, and an eliminator beside it.
+pub struct Beside {
+    pub head: Head,
+    pub next: Filter,
+}
+
+// Renders the buffer while nothing waits.
+fn quiet(line: &mut [i32; 2112], order: u32, h: Head, buffer: &mut [i32]) -> Head
+    requires { ⌜ Valid h (now line) × (loudest (now buffer) ≤ M) ⌝ }
+    requires { ⌜ (order ≡ h .filter .tuning .order) × (h .waiting ≡ Idle) × (h .pluck .left ≡ 0) ⌝ }
+    ensures { λ r. ⌜ Rendered (now (buffer .entry)) (stateOf h (now (line .entry))) (now (buffer .exit))
+        (stateOf r (now (line .exit))) (length (now (buffer .entry))) ⌝ }
+    ensures { λ r. ⌜ Valid r (now (line .exit)) ⌝ }
+{
+    let mut v = h.filter.state;
+    let mut last = h.last;
+    let mut at = h.at;
+    let mut i = 0;
+    while i < buffer.len() {
+        let x = samples::read(buffer, i);
+        let f = anew(order, h.filter, v);
+        let r = circulate(line, f, h.loss, last, at, x, Value { n: 0 });
+        last = r.y;
+        samples::write(buffer, i, last);
+        v = r.filter.state;
+        at = r.at;
+        i = i + 1;
+    }
+    carried(h, anew(order, h.filter, v), last, at)
+}
+
+// Renders the buffer while a change waits; its eliminator e, which took so many samples before, reads the line too.
+fn leading(
+    line: &mut [i32; 2112],
+    order: u32,
+    h: Head,
+    e: Filter,
+    taken: u32,
+    buffer: &mut [i32],
+) -> Beside
+    requires { ⌜ Valid h (now line) × (loudest (now buffer) ≤ M) × (taken + length (now buffer) ≤ h .advance) ⌝ }
+    requires { ⌜ (order ≡ h .filter .tuning .order) × (h .waiting ≡ Announced e taken) × (h .pluck .left ≡ 0) ⌝ }
+    ensures { λ r. ⌜ Rendered (now (buffer .entry)) (stateOf h (now (line .entry))) (now (buffer .exit))
+        (stateOf (dueOf (r .head) (r .next) (taken + length (now (buffer .entry)))) (now (line .exit)))
+        (length (now (buffer .entry))) ⌝ }
+    ensures { λ r. ⌜ Valid (dueOf (r .head) (r .next) (taken + length (now (buffer .entry)))) (now (line .exit)) ⌝ }
+{
+    let mut v = h.filter.state;
+    let mut u = e.state;
+    let mut last = h.last;
+    let mut at = h.at;
+    let mut i = 0;
+    while i < buffer.len() {
+        let x = samples::read(buffer, i);
+        let g = line::read(line, at, e.tuning.length as usize);
+        let f = anew(order, h.filter, v);
+        let r = circulate(line, f, h.loss, last, at, x, Value { n: 0 });
+        last = r.y;
+        samples::write(buffer, i, last);
+        let n = moved(anew(order, e, u), g);
+        v = r.filter.state;
+        u = n.state;
+        at = r.at;
+        i = i + 1;
+    }
+    let head = carried(h, anew(order, h.filter, v), last, at);
+    let next = anew(order, e, u);
+    Beside {
+        head: head,
+        next: next,
+    }
+}
+
+// Renders the buffer while nothing waits, by the loop of its order.
+pub fn steady(line: &mut [i32; 2112], h: Head, buffer: &mut [i32]) -> Head
+    requires { ⌜ Valid h (now line) × (loudest (now buffer) ≤ M) × (h .waiting ≡ Idle) × (h .pluck .left ≡ 0) ⌝ }
+    ensures { λ r. ⌜ Rendered (now (buffer .entry)) (stateOf h (now (line .entry))) (now (buffer .exit))
+        (stateOf r (now (line .exit))) (length (now (buffer .entry))) ⌝ }
+    ensures { λ r. ⌜ Valid r (now (line .exit)) ⌝ }
+{
+    if h.filter.tuning.order == 1 {
+        return quiet(line, 1, h, buffer);
+    }
+    quiet(line, 2, h, buffer)
+}
+
+// The same while a change waits, before it may be put in force.
+fn led(line: &mut [i32; 2112], h: Head, e: Filter, taken: u32, buffer: &mut [i32]) -> Beside
+    requires { ⌜ Valid h (now line) × (loudest (now buffer) ≤ M) × (taken + length (now buffer) ≤ h .advance) ⌝ }
+    requires { ⌜ (h .waiting ≡ Announced e taken) × (h .pluck .left ≡ 0) ⌝ }
+    ensures { λ r. ⌜ Rendered (now (buffer .entry)) (stateOf h (now (line .entry))) (now (buffer .exit))
+        (stateOf (dueOf (r .head) (r .next) (taken + length (now (buffer .entry)))) (now (line .exit)))
+        (length (now (buffer .entry))) ⌝ }
+    ensures { λ r. ⌜ Valid (dueOf (r .head) (r .next) (taken + length (now (buffer .entry)))) (now (line .exit)) ⌝ }
+{
+    if h.filter.tuning.order == 1 {
+        return leading(line, 1, h, e, taken, buffer);
+    }
+    leading(line, 2, h, e, taken, buffer)
+}
+
+// Renders the buffer while a change waits, which may take effect at its end.
+pub fn ahead(line: &mut [i32; 2112], h: Head, e: Filter, taken: u32, buffer: &mut [i32]) -> Head
+    requires { ⌜ Valid h (now line) × (loudest (now buffer) ≤ M) × (taken + length (now buffer) ≤ h .advance) ⌝ }
+    requires { ⌜ (h .waiting ≡ Announced e taken) × (h .pluck .left ≡ 0) ⌝ }
+    ensures { λ r. ⌜ Rendered (now (buffer .entry)) (stateOf h (now (line .entry))) (now (buffer .exit))
+        (stateOf r (now (line .exit))) (length (now (buffer .entry))) ⌝ }
+    ensures { λ r. ⌜ Valid r (now (line .exit)) ⌝ }
+{
+    let n = buffer.len();
+    let p = led(line, h, e, taken, buffer);
+    let head = p.head;
+    let next = p.next;
+    due(head, next, taken + (n as u32))
+}
