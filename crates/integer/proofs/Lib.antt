@@ -1,4 +1,4 @@
 pub mod View
 pub mod Ring
 pub mod Rounding
-mod Moved
+mod Quotient

@@ -1,17 +1,14 @@
 -- Laws of specs/Rounding.antt. `floor u m` is the q with m q ≤ u < m q + m.
 -- Assumes nothing.
-use mathlib.Core.Path.{_≡_, refl, sym, ap, _∙_}
-use mathlib.Core.Bool.{true, false}
-use Prim.Native.Nat.{ℕ, suc, _+_, _-_, _*_, _/_, _≤_, _<_, min}
+use mathlib.Core.Path.{_≡_, refl}
+use Prim.Native.Nat.{ℕ, suc, _+_, _*_, _/_, _≤_, _<_, min}
 use native.Mathlib.Omega.{arith}
-use native.Mathlib.Nat.{div-add-mod', mod-lt, mul-le-mul-right, add-div-right}
-use native.Mathlib.Numerals.{add-one}
+use native.Mathlib.Nat.{div-add-mod', mod-lt, mul-le-mul-right}
 use native.Mathlib.Decide.{decLt}
-use borrow.Author.Tests.{le-ltb}
-use lib.IntN.{ℤ, pos, negsuc, negℤ, natAbs, _+ℤ_, _-ℤ_, _*ℤ_}
-use lib.Signed.{_≤ℤ_, _<ℤ_, quotZ, ltZ}
+use lib.IntN.{ℤ, pos, negsuc, natAbs, _+ℤ_, _-ℤ_, _*ℤ_}
+use lib.Signed.{_≤ℤ_, _<ℤ_}
 use Rattle.integer.specs.Parts.{up, dn}
-use Rattle.integer.proofs.View.{+v, -v, *v, negv, absv, near, onev, quotv, Zs}
+use Rattle.integer.proofs.View.{+v, -v, *v, negv, absv, near, onev, Zs}
 use Rattle.integer.proofs.Ring.{times}
 use Rattle.integer.specs.Rounding.{floor, Nearest, nearest, R, M, clip}
 
@@ -65,41 +62,6 @@ floor-same u v m n h k e =
           (omega (arith, high, times m (*v (pos n) f), times m (+v X (pos n)), times m (+v v (pos 1)))),
       +v v (pos 1),
     ))
-
-≥0-ltZ : (z : ℤ) → dn z ≤ up z → ltZ z (pos 0) ≡ false
-≥0-ltZ (pos a) h = le-ltb a 0 (omega arith)
-≥0-ltZ (negsuc a) h = absurd (omega arith)
-
--- the division toward zero is the floor where u is not below 0
-pub floor-quot : (u : ℤ) (m : ℕ) → ltZ u (pos 0) ≡ false → quotZ u (pos m) ≡ floor u m
-unfolding floor
-floor-quot (pos a) m e = refl
-floor-quot (negsuc a) m e = absurd (omega Zs)
-
--- below 0 it is the floor of what is m - 1 more
-pub floor-quot-below : (u : ℤ) (m : ℕ) → 0 < m → ltZ u (pos 0) ≡ true
-    → quotZ (u -ℤ (pos m -ℤ pos 1)) (pos m) ≡ floor u m
-unfolding floor
-floor-quot-below (pos a) m h e = absurd (omega Zs)
-floor-quot-below (negsuc a) m h e =
-    let i : negsuc a -ℤ (pos m -ℤ pos 1) ≡ negsuc (a + (m - 1))
-    = omega (Zs, -v (negsuc a) (pos m -ℤ pos 1), -v (pos m) (pos 1)) in
-    let j : suc (a + (m - 1)) ≡ a + m = omega arith in
-    ap (λ (z : ℤ). quotZ z (pos m)) i
-    ∙ ap (λ (n : ℕ). negℤ (pos n)) (ap (λ (n : ℕ). n / m) j ∙ add-div-right a h ∙ add-one (a / m))
-
--- moved above zero by K times m, divided, and moved back
-pub floor-moved : (u : ℤ) (m K : ℕ) → 0 < m → natAbs u ≤ m * K
-    → quotZ (u +ℤ pos (m * K)) (pos m) -ℤ pos K ≡ floor u m
-floor-moved u m K h k =
-    let z = u +ℤ pos (m * K) in
-    let f = floor z m in
-    let q = f -ℤ pos K in
-    let l = times m (-v f (pos K)) in
-    ap (λ (x : ℤ). x -ℤ pos K) (floor-quot z m (≥0-ltZ z (omega (Zs, absv u, +v u (pos (m * K))))))
-    ∙ floor-only u q m h
-    (omega (Zs, floorv z m h, +v u (pos (m * K)), *v (pos m) q, l))
-    (omega (Zs, floorv z m h, +v u (pos (m * K)), *v (pos m) q, +v (pos m *ℤ q) (pos m), l))
 
 -- ---- nearest
 pub nearest-is : (p : ℤ) (q : ℕ) → 0 < q → Nearest p q (nearest p q)

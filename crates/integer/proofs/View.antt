@@ -3,11 +3,10 @@
 -- Assumes nothing.
 use mathlib.Core.Path.{_≡_, refl, sym, ap, subst, _∙_}
 use mathlib.Core.Bool.{Bool, true, false, not, cond}
-use Prim.Native.Nat.{ℕ, zero, suc, _+_, _*_, _-_, _/_, _%_, _^_, _≤_, _<_}
+use Prim.Native.Nat.{ℕ, zero, suc, _+_, _*_, _-_, _^_, _≤_, _<_}
 use native.Mathlib.Omega.{arith}
-use native.Mathlib.Nat.{lt-of-le-of-lt, zero-div, div-le-self}
 use lib.IntN.{ℤ, pos, negsuc, negℤ, natAbs, subℕ, _+ℤ_, _-ℤ_, _*ℤ_}
-use lib.Signed.{mag, _≤ℤ_, _<ℤ_, leZ, ltZ, ltZ-yes, ltZ-no, leZ-yes, mag-shr, shrZ, quotZ, natAbs-le}
+use lib.Signed.{mag, _≤ℤ_, _<ℤ_, leZ, ltZ, ltZ-yes, ltZ-no, leZ-yes, natAbs-le}
 use lib.Dec.{T, ltb, leb, ltb→lt, lt→ltb, leb→le, le→leb}
 use borrow.Author.Tests.{ltb-true, ltb-false, leb-false}
 use mir.Syntax.{Width}
@@ -134,17 +133,5 @@ leZ-false (pos a) (pos b) e = omega (arith, leb-false)
 leZ-false (pos a) (negsuc b) e = omega arith
 leZ-false (negsuc a) (pos b) e = absurd (subst T e tt)
 leZ-false (negsuc a) (negsuc b) e = omega (arith, leb-false)
-
--- ---- the machine's division toward zero, and its shift that rounds down
-pub quotv : (u : ℤ) (m : ℕ) → (up (quotZ u (pos m)) ≡ up u / m) × (dn (quotZ u (pos m)) ≡ dn u / m)
-quotv (pos a) m = (refl, sym (zero-div m))
-quotv (negsuc a) m = (negv (pos (suc a / m)) .0 ∙ sym (zero-div m), negv (pos (suc a / m)) .1)
-
-pub quot-fits : {w : Width} {z : ℤ} (m : ℕ) → SFits w z → SFits w (quotZ z (pos m))
-quot-fits {w} {z} m f =
-    vfit w (quotZ z (pos m)) (omega (arith, fitv f, quotv z m, div-le-self (up z) m, div-le-self (dn z) m))
-
-pub shr-fits : {w : Width} {z : ℤ} (m : ℕ) → SFits w z → SFits w (shrZ z m)
-shr-fits {w} {z} m f = record { sfits = lt-of-le-of-lt (mag-shr z m) (f .sfits) }
 
 pub ruleset Zs = (arith, ≤v, v≤, <v, v<, ≡v, v≡, ltZ-true, ltZ-false, leZ-true, leZ-false, fit-up, fit-dn)

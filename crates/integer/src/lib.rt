@@ -22,38 +22,34 @@ pub fn clip(u: Value) -> Value
     u
 }
 
-// R(u): u / 65,536 to the nearest, a half upward. What is divided is moved above zero by 2^24 times 65,536.
+// u / m downward: the quotient toward zero, one less where the remainder is below zero. Of this form the compiler
+// makes one arithmetic shift where m is a constant power of 2.
+pub fn floor_div(u: Value, m: u64) -> Value
+    requires { ⌜ (0 < m) × (m < 2 ^ 63) ⌝ }
+    ensures { λ r. ⌜ r .n ≡ floor (u .n) m ⌝ }
+{
+    let k = m as i64;
+    let q = u.n / k;
+    if u.n % k < 0 {
+        return Value { n: q - 1 };
+    }
+    Value { n: q }
+}
+
+// R(u): u / 65,536 to the nearest, a half upward.
 pub fn round_q16(u: Value) -> Value
     requires { ⌜ natAbs (u .n) ≤ 2 ^ 39 ⌝ }
     ensures { λ r. ⌜ r .n ≡ R (u .n) ⌝ }
 {
-    Value {
-        n: (u.n + 1_099_511_660_544) / 65_536 - 16_777_216,
-    }
+    floor_div(Value { n: u.n + 32_768 }, 65_536)
 }
 
-// u / 131,072 downward, moved above zero by 2^24 times 131,072.
+// u / 131,072 downward.
 pub fn floor_q17(u: Value) -> Value
     requires { ⌜ natAbs (u .n) ≤ 2 ^ 41 ⌝ }
     ensures { λ r. ⌜ r .n ≡ floor (u .n) 131072 ⌝ }
 {
-    Value {
-        n: (u.n + 2_199_023_255_552) / 131_072 - 16_777_216,
-    }
-}
-
-// u / m downward, by the sign of u.
-pub fn floor_div(u: Value, m: u64) -> Value
-    requires { ⌜ (0 < m) × (natAbs (u .n) + m ≤ 2 ^ 62) ⌝ }
-    ensures { λ r. ⌜ r .n ≡ floor (u .n) m ⌝ }
-{
-    let k = m as i64;
-    if u.n < 0 {
-        return Value {
-            n: (u.n - (k - 1)) / k,
-        };
-    }
-    Value { n: u.n / k }
+    floor_div(u, 131_072)
 }
 
 // p / q to the nearest, a half upward.

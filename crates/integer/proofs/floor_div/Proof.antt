@@ -1,17 +1,17 @@
--- `integer::floor_div` meets its contract: `floor-quot-below` where u is below 0, else `floor-quot`.
+-- `integer::floor_div` meets its contract: `floor-less` where the remainder is below 0, else `floor-quot`.
 -- Assumes nothing.
-use mathlib.Core.Path.{_≡_, refl}
-use Prim.Native.Nat.{ℕ, _<_, _^_}
-use native.Mathlib.Omega.{arith}
+use mathlib.Core.Path.{_≡_}
+use Prim.Native.Nat.{ℕ}
 use borrow.Author.Needs.{needs}
-use lib.IntN.{ℤ, pos, natAbs, _-ℤ_}
-use lib.Signed.{quotZ}
+use lib.IntN.{ℤ, pos, _-ℤ_}
+use lib.Signed.{quotZ, remZ}
 use mir.Syntax.{w64}
-use mir.Val.{SFits, toZ, ofZ}
+use mir.Val.{SFits, toZ}
 use mir.Facts.{toZ-ofZ}
 use mir.ValLaws.{toZ-pos}
-use Rattle.integer.proofs.View.{absv, -v, read, vfit, quot-fits}
-use Rattle.integer.proofs.Rounding.{floor-quot, floor-quot-below}
+use Rattle.integer.specs.Rounding.{floor}
+use Rattle.integer.proofs.View.{Zs}
+use Rattle.integer.proofs.Quotient.{quot-fits, rem-fits, floor-fits, floor-less, floor-quot}
 use Rattle.integer.proofs.floor_div.Statement.{statement}
 use Rattle.integer.proofs.floor_div.Tie as tie
 
@@ -23,62 +23,60 @@ module _ (c : tie.Start) where
   m = c .args .m
 
   m-read : toZ w64 m ≡ pos m
-  m-read = toZ-pos w64 m (omega arith)
-
-  less-fits : SFits w64 (pos m -ℤ pos 1)
-  less-fits = vfit w64 (pos m -ℤ pos 1) (omega (arith, -v (pos m) (pos 1)))
-
-  moved-fits : SFits w64 (u -ℤ (pos m -ℤ pos 1))
-  moved-fits =
-      vfit w64 (u -ℤ (pos m -ℤ pos 1)) (omega (arith, absv u, -v u (pos m -ℤ pos 1), -v (pos m) (pos 1)))
+  m-read = toZ-pos w64 m (c .pre .1)
 
 cast-k : tie.Need-cast-k
 cast-k c = search needs
 
-sub-t5 : tie.Need-sub-t5
-sub-t5 c = let s = c .before .before .before in rw (m-read s) (less-fits s)
+div-q : tie.Need-div-q
+div-q c =
+    let s = c .before .before in
+    let f : SFits w64 (u s) = record { sfits = c .struct-told .given .0 .1 } in
+    rw (toZ-ofZ f, m-read s) (s .pre .0, quot-fits (m s) f)
 
 module _ (c : tie.After-struct-told2) where
   abbrev start : tie.Start
-  start = c .before .before .before .before .before
+  start = c .before .before .before .before
 
-  u-read : toZ w64 (ofZ w64 (u start)) ≡ u start
-  u-read = read w64 (u start) (c .struct-told2 .given .0 .1) refl
+  u-fits : SFits w64 (u start)
+  u-fits = record { sfits = c .struct-told2 .given .0 .1 }
 
-sub-t6 : tie.Need-sub-t6
-sub-t6 c = let s = start c in rw (u-read c, m-read s, toZ-ofZ (less-fits s)) (moved-fits s)
+  q-fits : SFits w64 (quotZ (u start) (pos (m start)))
+  q-fits = quot-fits (m start) u-fits
 
-div-t7 : tie.Need-div-t7
-div-t7 c =
-    let s = start c in
-    rw (u-read c, m-read s, toZ-ofZ (less-fits s), toZ-ofZ (moved-fits s))
-    (s .pre .0, quot-fits (m s) (moved-fits s))
+  r-fits : SFits w64 (remZ (u start) (pos (m start)))
+  r-fits = rem-fits (m start) u-fits
+
+rem-if1 : tie.Need-rem-if1
+rem-if1 c = let s = start c in rw (toZ-ofZ (u-fits c), m-read s) (s .pre .0, q-fits c)
+
+module _ (c : tie.Then1) where
+  abbrev b : tie.After-struct-told2
+  b = c .before
+
+  less : quotZ (u (start b)) (pos (m (start b))) -ℤ pos 1 ≡ floor (u (start b)) (m (start b))
+  less =
+      let s = start b in
+      let below = rw (toZ-ofZ (u-fits b), m-read s, toZ-ofZ (r-fits b)) at (c .if1 .taken) in
+      floor-less (u s) (m s) (s .pre .0) (omega Zs)
+
+sub-t7 : tie.Need-sub-t7
+sub-t7 c =
+    let s = start (b c) in
+    rw (toZ-ofZ (u-fits (b c)), m-read s, toZ-ofZ (q-fits (b c)), less c) (floor-fits (m s) (u-fits (b c)))
 
 returns : tie.Need-returns
 returns c =
-    let s = start c in
-    let q = quot-fits (m s) (moved-fits s) in
-    rw (u-read c, m-read s, toZ-ofZ (less-fits s), toZ-ofZ (moved-fits s), toZ-ofZ q)
-    (floor-quot-below (u s) (m s) (s .pre .0) (rw (u-read c) at (c .before .before .if1 .taken)))
-
-module _ (c : tie.After-struct-told3) where
-  abbrev start′ : tie.Start
-  start′ = c .before .before .before .before .before
-
-  u-read′ : toZ w64 (ofZ w64 (u start′)) ≡ u start′
-  u-read′ = read w64 (u start′) (c .struct-told3 .given .0 .1) refl
-
-  u-fits : SFits w64 (u start′)
-  u-fits = record { sfits = c .struct-told3 .given .0 .1 }
-
-div-t8 : tie.Need-div-t8
-div-t8 c = let s = start′ c in rw (u-read′ c, m-read s) (s .pre .0, quot-fits (m s) (u-fits c))
+    let s = start (b c) in
+    rw (toZ-ofZ (u-fits (b c)), m-read s, toZ-ofZ (q-fits (b c)), less c)
+    (toZ-ofZ (floor-fits (m s) (u-fits (b c))))
 
 returns-2 : tie.Need-returns-2
 returns-2 c =
-    let s = start′ c in
-    rw (u-read′ c, m-read s, toZ-ofZ (quot-fits (m s) (u-fits c)))
-    (floor-quot (u s) (m s) (rw (u-read′ c) at (c .before .before .if1 .left)))
+    let b = c .before in
+    let s = start b in
+    let above = rw (toZ-ofZ (u-fits b), m-read s, toZ-ofZ (r-fits b)) at (c .if1 .left) in
+    rw (toZ-ofZ (u-fits b), m-read s, toZ-ofZ (q-fits b)) (floor-quot (u s) (m s) (s .pre .0) (omega Zs))
 
 pub floor-div-spec : {M : Type 1} → statement M
-floor-div-spec = tie.close (tie.spec cast-k sub-t5 sub-t6 div-t7 returns div-t8 returns-2)
+floor-div-spec = tie.close (tie.spec cast-k div-q rem-if1 sub-t7 returns returns-2)

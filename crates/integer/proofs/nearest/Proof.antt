@@ -47,9 +47,7 @@ mul-floor-div : tie.Need-mul-floor-div
 mul-floor-div c = search needs
 
 floor-div-requires : tie.Need-floor-div-requires
-floor-div-requires c κs =
-    rw (p-read c, q-read c, toZ-ofZ (twice-fits c), toZ-ofZ (sum-fits c))
-    (omega (arith, abs-* (pos 2) (p c), abs-+ (pos 2 *ℤ p c) (pos (q c))))
+floor-div-requires c κs = omega arith
 
 returns : tie.Need-returns
 unfolding nearest

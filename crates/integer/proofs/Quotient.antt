@@ -1,0 +1,59 @@
+-- The machine's division toward zero, and its remainder, which has the dividend's sign: the floor by the two.
+-- Assumes nothing.
+use mathlib.Core.Path.{_≡_, refl, sym, _∙_}
+use Prim.Native.Nat.{ℕ, suc, _+_, _*_, _/_, _%_, _<_}
+use native.Mathlib.Omega.{arith}
+use native.Mathlib.Nat.{div-add-mod', mod-lt, zero-div, div-le-self, lt-of-le-of-lt}
+use lib.IntN.{ℤ, pos, negsuc, _+ℤ_, _-ℤ_, _*ℤ_}
+use lib.Signed.{_≤ℤ_, _<ℤ_, quotZ, remZ, mag-rem, mag-shr}
+use mir.Syntax.{Width}
+use mir.Val.{SFits}
+use Rattle.integer.specs.Parts.{up, dn}
+use Rattle.integer.specs.Rounding.{floor}
+use Rattle.integer.proofs.View.{+v, -v, *v, negv, vfit, fitv, Zs}
+use Rattle.integer.proofs.Ring.{times}
+use Rattle.integer.proofs.Rounding.{floor-only}
+
+-- ---- ranges
+quotv : (u : ℤ) (m : ℕ) → (up (quotZ u (pos m)) ≡ up u / m) × (dn (quotZ u (pos m)) ≡ dn u / m)
+quotv (pos a) m = (refl, sym (zero-div m))
+quotv (negsuc a) m = (negv (pos (suc a / m)) .0 ∙ sym (zero-div m), negv (pos (suc a / m)) .1)
+
+pub quot-fits : {w : Width} {z : ℤ} (m : ℕ) → SFits w z → SFits w (quotZ z (pos m))
+quot-fits {w} {z} m f =
+    vfit w (quotZ z (pos m)) (omega (arith, fitv f, quotv z m, div-le-self (up z) m, div-le-self (dn z) m))
+
+pub rem-fits : {w : Width} {z : ℤ} (m : ℕ) → SFits w z → SFits w (remZ z (pos m))
+rem-fits {w} {z} m f = record { sfits = lt-of-le-of-lt (mag-rem z (pos m)) (f .sfits) }
+
+pub floor-fits : {w : Width} {u : ℤ} (m : ℕ) → SFits w u → SFits w (floor u m)
+unfolding floor
+floor-fits {w} {u} m f = record { sfits = lt-of-le-of-lt (mag-shr u m) (f .sfits) }
+
+-- ---- the floor
+-- the quotient toward zero and its remainder, in parts: u is m q and r, each part of which is below m
+quot-rem : (u : ℤ) (m : ℕ) → 0 < m
+    → (m * up (quotZ u (pos m)) + up (remZ u (pos m)) ≡ up u) × (up (remZ u (pos m)) < m)
+    × (m * dn (quotZ u (pos m)) + dn (remZ u (pos m)) ≡ dn u) × (dn (remZ u (pos m)) < m)
+quot-rem (pos a) m h = omega (arith, div-add-mod' a m, mod-lt a h)
+quot-rem (negsuc a) m h =
+    let s = suc a in
+    let n = negv (pos (s / m)) in
+    omega (arith, times m (n .0), times m (n .1), negv (pos (s % m)), div-add-mod' s m, mod-lt s h)
+
+-- the floor is the quotient toward zero, one less where the remainder is below zero
+pub floor-less : (u : ℤ) (m : ℕ) → 0 < m → remZ u (pos m) <ℤ pos 0 → quotZ u (pos m) -ℤ pos 1 ≡ floor u m
+floor-less u m h k =
+    let q = quotZ u (pos m) in
+    let p = q -ℤ pos 1 in
+    let l = times m (-v q (pos 1)) in
+    floor-only u p m h
+    (omega (Zs, quot-rem u m h, *v (pos m) p, l))
+    (omega (Zs, quot-rem u m h, *v (pos m) p, +v (pos m *ℤ p) (pos m), l))
+
+pub floor-quot : (u : ℤ) (m : ℕ) → 0 < m → pos 0 ≤ℤ remZ u (pos m) → quotZ u (pos m) ≡ floor u m
+floor-quot u m h k =
+    let q = quotZ u (pos m) in
+    floor-only u q m h
+    (omega (Zs, quot-rem u m h, *v (pos m) q))
+    (omega (Zs, quot-rem u m h, *v (pos m) q, +v (pos m *ℤ q) (pos m)))
