@@ -4,7 +4,7 @@ use mathlib.Core.Path.{_≡_, refl, sym, _∙_}
 use Prim.Native.Nat.{ℕ, suc, _+_, _*_, _/_, _%_, _<_}
 use native.Mathlib.Omega.{arith}
 use native.Mathlib.Nat.{div-add-mod', mod-lt, zero-div, div-le-self, lt-of-le-of-lt}
-use lib.IntN.{ℤ, pos, negsuc, _+ℤ_, _-ℤ_, _*ℤ_}
+use lib.IntN.{ℤ, pos, negsuc, _-ℤ_, _*ℤ_}
 use lib.Signed.{_≤ℤ_, _<ℤ_, quotZ, remZ, mag-rem, mag-shr}
 use mir.Syntax.{Width}
 use mir.Val.{SFits}
@@ -26,7 +26,7 @@ quot-fits {w} {z} m f =
 pub rem-fits : {w : Width} {z : ℤ} (m : ℕ) → SFits w z → SFits w (remZ z (pos m))
 rem-fits {w} {z} m f = record { sfits = lt-of-le-of-lt (mag-rem z (pos m)) (f .sfits) }
 
-pub floor-fits : {w : Width} {u : ℤ} (m : ℕ) → SFits w u → SFits w (floor u m)
+floor-fits : {w : Width} {u : ℤ} (m : ℕ) → SFits w u → SFits w (floor u m)
 unfolding floor
 floor-fits {w} {u} m f = record { sfits = lt-of-le-of-lt (mag-shr u m) (f .sfits) }
 
@@ -57,3 +57,7 @@ floor-quot u m h k =
     floor-only u q m h
     (omega (Zs, quot-rem u m h, *v (pos m) q))
     (omega (Zs, quot-rem u m h, *v (pos m) q, +v (pos m *ℤ q) (pos m)))
+
+pub less-fits : {w : Width} {u : ℤ} (m : ℕ) → 0 < m → SFits w u → remZ u (pos m) <ℤ pos 0
+    → SFits w (quotZ u (pos m) -ℤ pos 1)
+less-fits {w} {u} m h f k = rw (floor-less u m h k) (floor-fits m f)

@@ -22,8 +22,7 @@ pub fn clip(u: Value) -> Value
     u
 }
 
-// u / m downward: the quotient toward zero, one less where the remainder is below zero. Of this form the compiler
-// makes one arithmetic shift where m is a constant power of 2.
+// u / m downward: the quotient toward zero, one less where the remainder is below zero.
 pub fn floor_div(u: Value, m: u64) -> Value
     requires { ⌜ (0 < m) × (m < 2 ^ 63) ⌝ }
     ensures { λ r. ⌜ r .n ≡ floor (u .n) m ⌝ }
@@ -36,20 +35,36 @@ pub fn floor_div(u: Value, m: u64) -> Value
     Value { n: q }
 }
 
+// u / 65,536 downward, as `floor_div` has it, with the divisor as a literal: the compiler makes one arithmetic
+// shift of it, and of `floor_div` at 65,536 it does not.
+fn floor_q16(u: Value) -> Value
+    ensures { λ r. ⌜ r .n ≡ floor (u .n) 65536 ⌝ }
+{
+    let q = u.n / 65_536;
+    if u.n % 65_536 < 0 {
+        return Value { n: q - 1 };
+    }
+    Value { n: q }
+}
+
 // R(u): u / 65,536 to the nearest, a half upward.
 pub fn round_q16(u: Value) -> Value
     requires { ⌜ natAbs (u .n) ≤ 2 ^ 39 ⌝ }
     ensures { λ r. ⌜ r .n ≡ R (u .n) ⌝ }
 {
-    floor_div(Value { n: u.n + 32_768 }, 65_536)
+    floor_q16(Value { n: u.n + 32_768 })
 }
 
-// u / 131,072 downward.
+// u / 131,072 downward, one arithmetic shift like `floor_q16`.
 pub fn floor_q17(u: Value) -> Value
     requires { ⌜ natAbs (u .n) ≤ 2 ^ 41 ⌝ }
     ensures { λ r. ⌜ r .n ≡ floor (u .n) 131072 ⌝ }
 {
-    floor_div(u, 131_072)
+    let q = u.n / 131_072;
+    if u.n % 131_072 < 0 {
+        return Value { n: q - 1 };
+    }
+    Value { n: q }
 }
 
 // p / q to the nearest, a half upward.

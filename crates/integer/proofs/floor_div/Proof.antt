@@ -3,15 +3,14 @@
 use mathlib.Core.Path.{_≡_}
 use Prim.Native.Nat.{ℕ}
 use borrow.Author.Needs.{needs}
-use lib.IntN.{ℤ, pos, _-ℤ_}
-use lib.Signed.{quotZ, remZ}
+use lib.IntN.{ℤ, pos}
+use lib.Signed.{_<ℤ_, remZ}
 use mir.Syntax.{w64}
 use mir.Val.{SFits, toZ}
 use mir.Facts.{toZ-ofZ}
 use mir.ValLaws.{toZ-pos}
-use Rattle.integer.specs.Rounding.{floor}
 use Rattle.integer.proofs.View.{Zs}
-use Rattle.integer.proofs.Quotient.{quot-fits, rem-fits, floor-fits, floor-less, floor-quot}
+use Rattle.integer.proofs.Quotient.{quot-fits, rem-fits, less-fits, floor-less, floor-quot}
 use Rattle.integer.proofs.floor_div.Statement.{statement}
 use Rattle.integer.proofs.floor_div.Tie as tie
 
@@ -38,45 +37,38 @@ module _ (c : tie.After-struct-told2) where
   abbrev start : tie.Start
   start = c .before .before .before .before
 
-  u-fits : SFits w64 (u start)
-  u-fits = record { sfits = c .struct-told2 .given .0 .1 }
-
-  q-fits : SFits w64 (quotZ (u start) (pos (m start)))
-  q-fits = quot-fits (m start) u-fits
-
-  r-fits : SFits w64 (remZ (u start) (pos (m start)))
-  r-fits = rem-fits (m start) u-fits
+  fits : SFits w64 (u start)
+  fits = record { sfits = c .struct-told2 .given .0 .1 }
 
 rem-if1 : tie.Need-rem-if1
-rem-if1 c = let s = start c in rw (toZ-ofZ (u-fits c), m-read s) (s .pre .0, q-fits c)
+rem-if1 c = let s = start c in rw (toZ-ofZ (fits c), m-read s) (s .pre .0, quot-fits (m s) (fits c))
 
-module _ (c : tie.Then1) where
-  abbrev b : tie.After-struct-told2
-  b = c .before
-
-  less : quotZ (u (start b)) (pos (m (start b))) -ℤ pos 1 ≡ floor (u (start b)) (m (start b))
-  less =
-      let s = start b in
-      let below = rw (toZ-ofZ (u-fits b), m-read s, toZ-ofZ (r-fits b)) at (c .if1 .taken) in
-      floor-less (u s) (m s) (s .pre .0) (omega Zs)
+below : (c : tie.Then1) → remZ (u (start (c .before))) (pos (m (start (c .before)))) <ℤ pos 0
+below c =
+    let s = start (c .before) in
+    let f = fits (c .before) in
+    let test = rw (toZ-ofZ f, m-read s, toZ-ofZ (rem-fits (m s) f)) at (c .if1 .taken) in
+    omega Zs
 
 sub-t7 : tie.Need-sub-t7
 sub-t7 c =
-    let s = start (b c) in
-    rw (toZ-ofZ (u-fits (b c)), m-read s, toZ-ofZ (q-fits (b c)), less c) (floor-fits (m s) (u-fits (b c)))
+    let s = start (c .before) in
+    let f = fits (c .before) in
+    rw (toZ-ofZ f, m-read s, toZ-ofZ (quot-fits (m s) f)) (less-fits (m s) (s .pre .0) f (below c))
 
 returns : tie.Need-returns
 returns c =
-    let s = start (b c) in
-    rw (toZ-ofZ (u-fits (b c)), m-read s, toZ-ofZ (q-fits (b c)), less c)
-    (toZ-ofZ (floor-fits (m s) (u-fits (b c))))
+    let s = start (c .before) in
+    let f = fits (c .before) in
+    rw (toZ-ofZ f, m-read s, toZ-ofZ (quot-fits (m s) f), toZ-ofZ (less-fits (m s) (s .pre .0) f (below c)))
+    (floor-less (u s) (m s) (s .pre .0) (below c))
 
 returns-2 : tie.Need-returns-2
 returns-2 c =
-    let b = c .before in
-    let s = start b in
-    let above = rw (toZ-ofZ (u-fits b), m-read s, toZ-ofZ (r-fits b)) at (c .if1 .left) in
-    rw (toZ-ofZ (u-fits b), m-read s, toZ-ofZ (q-fits b)) (floor-quot (u s) (m s) (s .pre .0) (omega Zs))
+    let s = start (c .before) in
+    let f = fits (c .before) in
+    let test = rw (toZ-ofZ f, m-read s, toZ-ofZ (rem-fits (m s) f)) at (c .if1 .left) in
+    rw (toZ-ofZ f, m-read s, toZ-ofZ (quot-fits (m s) f)) (floor-quot (u s) (m s) (s .pre .0) (omega Zs))
 
 pub floor-div-spec : {M : Type 1} → statement M
 floor-div-spec = tie.close (tie.spec cast-k div-q rem-if1 sub-t7 returns returns-2)

@@ -27,14 +27,14 @@ module _ (c : tie.After-struct-told) where
 add-t2 : tie.Need-add-t2
 add-t2 c = rw (u-read c) (sum-fits c (lit< tt))
 
-floor-div-requires : tie.Need-floor-div-requires
-floor-div-requires c κs = (lit< tt, lit< tt)
+floor-q16-requires : tie.Need-floor-q16-requires
+floor-q16-requires c κs = tt
 
 returns : tie.Need-returns
 unfolding R
 returns c =
-    let s = rw (u-read (c .before)) at (c .floor-div .ensures) in
-    s ∙ ap (λ (z : ℤ). floor z 65536) (toZ-ofZ (sum-fits (c .before) (lit< tt)))
+    let sum = rw (u-read (c .before)) at (c .floor-q16 .ensures) in
+    sum ∙ ap (λ (z : ℤ). floor z 65536) (toZ-ofZ (sum-fits (c .before) (lit< tt)))
 
 pub round-q16-spec : {M : Type 1} → statement M
-round-q16-spec = tie.close (tie.spec add-t2 floor-div-requires returns)
+round-q16-spec = tie.close (tie.spec add-t2 floor-q16-requires returns)
