@@ -9,6 +9,7 @@ pub mod cases;
 pub mod change;
 pub mod click;
 pub mod command;
+pub mod compare;
 pub mod console;
 pub mod figures;
 pub mod natural;

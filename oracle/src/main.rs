@@ -1,6 +1,7 @@
-//! The commands: player, console, figures, rows, scores and calls.
+//! The commands: player, console, figures, rows, scores, calls and compare.
 
 use oracle::cases::{write_cases, Report};
+use oracle::compare::compare;
 use oracle::console::answers;
 use oracle::figures::figures;
 use oracle::player::{play, SCORE_BYTES};
@@ -14,7 +15,8 @@ oracle console < text
 oracle figures
 oracle rows
 oracle scores SEED COUNT DIR
-oracle calls SEED COUNT DIR";
+oracle calls SEED COUNT DIR
+oracle compare PROGRAM DIR SAVED";
 
 /// Standard input up to a number of bytes.
 fn read_input(limit: u64) -> io::Result<Vec<u8>> {
@@ -79,6 +81,19 @@ fn make_cases(kind: &str, seed: &str, count: &str, dir: &str) -> Result<(), Stri
     print_report(&report)
 }
 
+/// `compare`: holds a program to the cases of a folder; fails where one differs, and names three.
+fn hold(program: &str, dir: &str, saved: &str) -> Result<(), String> {
+    let compared = compare(Path::new(program), Path::new(dir), Path::new(saved))?;
+    let (cases, differ) = (compared.cases, compared.differ);
+    print(&format!("{program}: {cases} compared, {} differ\n", differ.len()))?;
+    let first: Vec<&str> = differ.iter().take(3).map(String::as_str).collect();
+    match (cases, differ.len()) {
+        (0, _) => Err(format!("{dir} has no case")),
+        (_, 0) => Ok(()),
+        _ => Err(format!("see {saved}, first {}", first.join(", "))),
+    }
+}
+
 fn main() -> ExitCode {
     let arguments: Vec<String> = std::env::args().skip(1).collect();
     let words: Vec<&str> = arguments.iter().map(String::as_str).collect();
@@ -88,6 +103,7 @@ fn main() -> ExitCode {
         ["figures"] => print_figures(),
         ["rows"] => print(&rows()),
         [kind @ ("scores" | "calls"), seed, count, dir] => make_cases(kind, seed, count, dir),
+        ["compare", program, dir, saved] => hold(program, dir, saved),
         _ => {
             eprintln!("{USAGE}");
             return ExitCode::from(2);
