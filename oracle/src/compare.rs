@@ -4,7 +4,10 @@ use std::fs::{self, File};
 use std::path::{Path, PathBuf};
 use std::process::{Command, Stdio};
 
-/// The number of cases, and the names of those that differ.
+/// So many cases that differ end a comparison.
+const ENOUGH: usize = 20;
+
+/// The number of cases compared, and the names of those that differ.
 #[derive(Debug, Default)]
 pub struct Compared {
     pub cases: u64,
@@ -42,7 +45,7 @@ fn save(input: &Path, expected: &[u8], got: &[u8], saved: &Path) -> Result<(), S
 }
 
 /// Runs a program on each DIR/NNNNN.in and compares what it prints with DIR/NNNNN.out. A case
-/// that differs, or that the program does not end with status 0, is saved.
+/// that differs, or that the program does not end with status 0, is saved; twenty are enough.
 pub fn compare(program: &Path, dir: &Path, saved: &Path) -> Result<Compared, String> {
     let mut compared = Compared::default();
     for input in inputs(dir)? {
@@ -55,6 +58,9 @@ pub fn compare(program: &Path, dir: &Path, saved: &Path) -> Result<Compared, Str
             save(&input, &expected, &got, saved)?;
             let name = input.file_stem().unwrap_or_default();
             compared.differ.push(name.to_string_lossy().into_owned());
+        }
+        if compared.differ.len() == ENOUGH {
+            break;
         }
     }
     Ok(compared)

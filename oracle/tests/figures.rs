@@ -1,5 +1,6 @@
 //! The checked figures of document 01 and the player's example.
 
+use oracle::console::answers;
 use oracle::figures::{figures, EXAMPLE};
 use oracle::player::play;
 
@@ -16,6 +17,15 @@ fn every_row_has_the_value_of_the_paper() {
 fn the_player_prints_the_example() {
     let (text, _) = play(&EXAMPLE);
     assert_eq!(text, "0\n0\n0\n0\n-17298\n0\n0\n0\n-4324\n-4324\nend 0 2 10\n");
+}
+
+#[test]
+fn the_cases_of_the_folder_figures_are_the_papers() {
+    let asked = include_bytes!("../figures/console/figures.in");
+    assert_eq!(answers(asked), include_str!("../figures/console/figures.out"));
+    let score = include_bytes!("../figures/player/example.in");
+    assert_eq!(score, &EXAMPLE);
+    assert_eq!(play(score).0, include_str!("../figures/player/example.out"));
 }
 
 #[test]
