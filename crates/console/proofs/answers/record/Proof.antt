@@ -1,0 +1,35 @@
+-- `console::answers::record` meets its contract: the record is a part of the bytes.
+-- Assumes nothing.
+use mathlib.Core.Path.{sym}
+use native.Mathlib.Omega.{arith}
+use borrow.Author.Needs.{needs}
+use lib.Seq.{length-take-le}
+use Rattle.console.proofs.answers.record.Statement.{statement}
+use Rattle.console.proofs.answers.record.Tie as tie
+
+slice-aggregate-read-record : tie.Need-slice-aggregate-read-record
+slice-aggregate-read-record c =
+    let a = c .before .before .args in
+    sym (length-take-le (a .count) (a .bytes .now) (omega arith))
+
+read-record-requires : tie.Need-read-record-requires
+read-record-requires c κs = search needs
+
+fields-requires : tie.Need-fields-requires
+fields-requires c κs = search needs
+
+number-requires : tie.Need-number-requires
+number-requires c κs = search needs
+
+returns : tie.Need-returns
+returns c = search needs
+
+pub record-spec : {M : Type 1} → statement M
+record-spec =
+    tie.close
+    (tie.spec
+    slice-aggregate-read-record
+    read-record-requires
+    fields-requires
+    number-requires
+    returns)

@@ -1,0 +1,128 @@
+// The calls on the voice that the console keeps. Each leaves a voice that the next may be made on.
+// The line is lent; the head goes by value.
+ghost use mathlib.Core.Path.{_≡_};
+ghost use mathlib.Core.List.{List};
+ghost use Prim.Native.Nat.{_≤_};
+ghost use lib.IntN.{ℤ};
+ghost use lib.ListN.{length};
+ghost use Rattle.parts.specs.Valid.{Fit, Valid};
+ghost use Rattle.console.specs.Within.{Within};
+use crate::kinds::ANNOUNCE;
+use crate::kinds::BLOCK;
+use crate::kinds::INSTANT;
+use crate::kinds::LOSS;
+use crate::kinds::OPEN;
+use crate::kinds::PLUCK;
+use crate::parse::Line;
+use parts::Answer;
+use parts::Head;
+
+// What a call returned: its number, the count of an instant change, and the voice's head.
+pub struct Made {
+    pub refusal: u32,
+    pub count: u32,
+    pub head: Head,
+}
+
+// What a call returned that has no count.
+fn plain(a: Answer) -> Made
+    ensures { λ r. ⌜ r .head ≡ a .head ⌝ }
+{
+    let h = a.head;
+    Made {
+        refusal: a.refusal,
+        count: 0,
+        head: h,
+    }
+}
+
+// Opens a voice in place of the one that was kept, also where Open refuses.
+pub fn opened(line: &mut [i32; 2112], l: Line) -> Made
+    ensures { λ r. ⌜ Valid (r .head) (now (line .exit)) ⌝ }
+{
+    let o = voice::open::open(l.a, l.b, l.c, l.d, l.e);
+    let v = o.voice;
+    let x = v.line;
+    *line = x;
+    let h = v.head;
+    Made {
+        refusal: o.refusal,
+        count: 0,
+        head: h,
+    }
+}
+
+// A block over the first samples of the input and of the output.
+fn blocked(
+    line: &mut [i32; 2112],
+    head: Head,
+    input: &[i32],
+    samples: usize,
+    output: &mut [i32],
+    places: usize,
+) -> Made
+    requires { ⌜ Valid head (now line)
+        × (samples ≤ length (now input))
+        × (places ≤ length (now output)) ⌝ }
+    ensures { λ r. ⌜ Valid (r .head) (now (line .exit)) ⌝ }
+{
+    plain(block::block(line, head, &input[..samples], &mut output[..places]))
+}
+
+// The calls that neither read nor write the line; on a line that asks for none the voice is as it was.
+fn set(head: Head, l: Line) -> Answer
+    requires { ⌜ Fit head ⌝ }
+    ensures { λ r. ⌜ ((k : List ℤ) → Valid head k → Valid (r .head) k) ⌝ }
+{
+    if l.kind == LOSS {
+        return voice::calls::loss(head, l.a);
+    }
+    if l.kind == PLUCK {
+        return voice::calls::pluck(head, l.a, l.b, l.c);
+    }
+    if l.kind == ANNOUNCE {
+        return change::announce(head, l.a, l.b);
+    }
+    Answer {
+        refusal: 0,
+        head: head,
+    }
+}
+
+// An instant change.
+fn instant(line: &[i32; 2112], head: Head, l: Line) -> Made
+    requires { ⌜ Valid head (now line) ⌝ }
+    ensures { λ r. ⌜ Valid (r .head) (now (line .entry)) ⌝ }
+{
+    let c = change::instant(line, head, l.a, l.b);
+    let a = c.answer;
+    let h = a.head;
+    Made {
+        refusal: a.refusal,
+        count: c.count,
+        head: h,
+    }
+}
+
+// The call that a line asks for.
+pub fn call(
+    line: &mut [i32; 2112],
+    head: Head,
+    l: Line,
+    input: &[i32; 4096],
+    output: &mut [i32; 16384],
+) -> Made
+    requires { ⌜ Valid head (now line) × Within l ⌝ }
+    ensures { λ r. ⌜ Valid (r .head) (now (line .exit)) ⌝ }
+{
+    if l.kind == OPEN {
+        return opened(line, l);
+    }
+    if l.kind == BLOCK {
+        return blocked(line, head, input, l.samples, output, l.places);
+    }
+    if l.kind == INSTANT {
+        return instant(line, head, l);
+    }
+    plain(set(head, l))
+}

@@ -1,0 +1,5 @@
+pub mod Flags
+pub mod Digits
+pub mod Hex
+pub mod Places
+pub mod Signs
