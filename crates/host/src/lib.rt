@@ -1,0 +1,94 @@
+// The routines for programs in other languages, by the C calling convention: include/jivaszte.h declares them.
+// Each contract cites the definition of the routine that it calls; a refusal is returned, the rest is left in what is lent.
+ghost use mathlib.Core.Path.{_≡_};
+ghost use Prim.Native.Nat.{_≤_};
+ghost use lib.ListN.{length, drop};
+ghost use Rattle.thiran.specs.Answers.{answer};
+ghost use Rattle.allpass.specs.Length.{effectiveLength};
+ghost use Rattle.pitch.specs.Pitch.{pitch};
+ghost use Rattle.noise.specs.Noise.{drawn};
+ghost use Rattle.score.specs.Record.{fields as Fields, rest as Rest};
+ghost use Rattle.score.specs.Played.{Runs};
+
+// A1 and A2 of an order and a delay.
+#[no_mangle]
+pub extern "C" fn jivaszte_coefficients(order: u32, d: u32, a1: &mut i32, a2: &mut i32) -> u32
+    ensures { λ r. ⌜ record { refusal = r; a1 = now (a1 .exit); a2 = now (a2 .exit) } ≡ answer order d ⌝ }
+{
+    let c = thiran::coefficients(order, d);
+    let x = c.a1;
+    let y = c.a2;
+    *a1 = x;
+    *a2 = y;
+    c.refusal
+}
+
+// How many values of the eliminator's response exceed the threshold.
+#[no_mangle]
+pub extern "C" fn jivaszte_effective_length(
+    order: u32,
+    d: u32,
+    threshold: u32,
+    count: &mut u32,
+) -> u32
+    ensures { λ r. ⌜ record { refusal = r; count = now (count .exit) } ≡ effectiveLength order d threshold ⌝ }
+{
+    let c = allpass::effective_length(order, d, threshold);
+    *count = c.count;
+    c.refusal
+}
+
+// L and d of a note at a rate.
+#[no_mangle]
+pub extern "C" fn jivaszte_note(
+    order: u32,
+    rate: u32,
+    note: u32,
+    length: &mut u32,
+    delay: &mut u32,
+) -> u32
+    ensures { λ r. ⌜ record { refusal = r; length = now (length .exit); delay = now (delay .exit) }
+        ≡ pitch order rate note ⌝ }
+{
+    let p = pitch::note(order, rate, note);
+    *length = p.length;
+    *delay = p.delay;
+    p.refusal
+}
+
+// One draw on the noise state that is lent.
+#[no_mangle]
+pub extern "C" fn jivaszte_draw(noise: &mut u32) -> i32
+    ensures { λ r. ⌜ record { value = r; state = now (noise .exit) } ≡ drawn (now (noise .entry)) ⌝ }
+{
+    let d = noise::draw(*noise);
+    *noise = d.state;
+    d.value
+}
+
+// Reads the record that the bytes start with, and returns how many bytes it takes: 0 where it is refused.
+#[no_mangle]
+pub extern "C" fn jivaszte_record(score: &[u8], fields: &mut [u32; 9]) -> usize
+    ensures { λ _. ⌜ now (fields .exit) ≡ Fields (now (score .entry)) ⌝ }
+    ensures { λ r. ⌜ (r ≤ length (now (score .entry))) × (drop r (now (score .entry)) ≡ Rest (now (score .entry))) ⌝ }
+{
+    let rest = score::record::read_record(score, fields);
+    score.len() - rest.len()
+}
+
+// The run of a score.
+#[no_mangle]
+pub extern "C" fn jivaszte_run(
+    score: &[u8],
+    output: &mut [i32],
+    place: &mut usize,
+    written: &mut usize,
+) -> u32
+    ensures { λ r. ⌜ Runs (now (score .entry)) (now (output .entry))
+        (record { refusal = r; place = now (place .exit); written = now (written .exit) }) (now (output .exit)) ⌝ }
+{
+    let p = score::run::run(score, output);
+    *place = p.place;
+    *written = p.written;
+    p.refusal
+}

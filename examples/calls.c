@@ -1,0 +1,118 @@
+/* Each routine of include/jivaszte.h called from C, refused too. Prints examples/calls.txt, as calls.rs does. */
+#include "../include/jivaszte.h"
+#include <stdio.h>
+#include <stdlib.h>
+
+/* What a refused call must leave. */
+static void zero(int64_t left)
+{
+    if (left != 0) {
+        fprintf(stderr, "a refused call left %lld\n", (long long)left);
+        exit(1);
+    }
+}
+
+static void coefficients(uint32_t order, uint32_t delay)
+{
+    int32_t a1 = 7, a2 = 7;
+    uint32_t refusal = jivaszte_coefficients(order, delay, &a1, &a2);
+    printf("coefficients %u %u: ", order, delay);
+    if (refusal == JIVASZTE_DONE) {
+        printf("%d %d\n", a1, a2);
+    } else {
+        printf("refused by %u\n", refusal);
+        zero(a1);
+        zero(a2);
+    }
+}
+
+static void effective_length(uint32_t order, uint32_t delay, uint32_t threshold)
+{
+    uint32_t count = 7, refusal = jivaszte_effective_length(order, delay, threshold, &count);
+    printf("effective length %u %u %u: ", order, delay, threshold);
+    if (refusal == JIVASZTE_DONE) {
+        printf("%u\n", count);
+    } else {
+        printf("refused by %u\n", refusal);
+        zero(count);
+    }
+}
+
+static void note(uint32_t order, uint32_t rate, uint32_t number)
+{
+    uint32_t length = 7, delay = 7, refusal = jivaszte_note(order, rate, number, &length, &delay);
+    printf("note %u %u %u: ", order, rate, number);
+    if (refusal == JIVASZTE_DONE) {
+        printf("%u %u\n", length, delay);
+    } else {
+        printf("refused by %u\n", refusal);
+        zero(length);
+        zero(delay);
+    }
+}
+
+static void record(const char *what, const uint8_t *score, size_t length)
+{
+    uint32_t fields[JIVASZTE_FIELDS];
+    size_t took = jivaszte_record(score, length, fields);
+    printf("record %s: takes %zu,", what, took);
+    for (int i = 0; i < JIVASZTE_FIELDS; i++)
+        printf(" %u", fields[i]);
+    printf("\n");
+}
+
+static void run(const char *what, const uint8_t *score, size_t length, size_t room)
+{
+    int32_t output[16];
+    for (int i = 0; i < 16; i++)
+        output[i] = 7;
+    size_t place = 7, written = 7;
+    uint32_t refusal = jivaszte_run(score, length, output, room, &place, &written);
+    printf("run %s: %u %zu %zu,", what, refusal, place, written);
+    for (int i = 0; i < 16; i++)
+        printf(" %d", output[i]);
+    printf("\n");
+}
+
+int main(void)
+{
+    static const uint8_t paper[] = { 1, 0, 3, 0, 0, 16, 0, 128, 48, 1, 0, 1, 0, 1, 10, 0 };
+    static const uint8_t third[] = { 3, 0, 3, 0, 0, 16, 0, 128, 1, 10, 0 };
+    static const uint8_t waits[] = { 1, 4, 3, 0, 0, 16, 0, 128, 1, 2, 0, 2, 5, 0, 3, 3, 0, 6, 0 };
+    static const uint8_t every[] = { 255, 1, 2, 3, 4, 5, 6, 7, 8, 9, 10, 11, 12, 13, 14, 99 };
+    static const uint8_t seed[] = { 64, 1, 2 };
+    uint32_t noise = 0;
+
+    coefficients(1, 2979);
+    coefficients(2, 6145);
+    coefficients(3, 4096);
+    coefficients(1, 2048);
+    coefficients(4294967295u, 4294967295u);
+    effective_length(2, 9159, 1000);
+    effective_length(1, 6144, 1000000);
+    effective_length(0, 4096, 0);
+    effective_length(2, 6144, 0);
+    note(1, 44100, 69);
+    note(2, 44100, 69);
+    note(3, 44100, 69);
+    note(1, 7999, 69);
+    note(1, 44100, 128);
+    note(1, 192000, 0);
+    for (int i = 0; i < 3; i++)
+        printf("draw: %d\n", jivaszte_draw(&noise));
+    record("of the paper", paper + 8, sizeof paper - 8);
+    record("with every field", every, sizeof every);
+    record("cut short", every, 14);
+    record("of no byte", every, 0);
+    record("with a seed alone", seed, sizeof seed);
+    run("of the paper", paper, sizeof paper, 16);
+    run("with no room left", paper, sizeof paper, 9);
+    run("of order 3", third, sizeof third, 16);
+    run("of a header cut short", paper, 7, 16);
+    run("of a change that waits", waits, sizeof waits, 16);
+    run("of nothing", paper, 0, 0);
+    for (uint32_t number = JIVASZTE_DONE; number <= JIVASZTE_OUTPUT_FULL; number++)
+        if (jivaszte_words(number) == jivaszte_words(JIVASZTE_OUTPUT_FULL + 1))
+            return 1;
+    return 0;
+}

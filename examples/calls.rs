@@ -1,0 +1,77 @@
+//! Each routine of include/jivaszte.h called from Rust, refused too. Prints examples/calls.txt, as calls.c does.
+mod jivaszte;
+
+fn coefficients(order: u32, delay: u32) {
+    match jivaszte::coefficients(order, delay) {
+        Ok((a1, a2)) => println!("coefficients {order} {delay}: {a1} {a2}"),
+        Err(refusal) => println!("coefficients {order} {delay}: refused by {refusal}"),
+    }
+}
+
+fn effective_length(order: u32, delay: u32, threshold: u32) {
+    match jivaszte::effective_length(order, delay, threshold) {
+        Ok(count) => println!("effective length {order} {delay} {threshold}: {count}"),
+        Err(refusal) => println!("effective length {order} {delay} {threshold}: refused by {refusal}"),
+    }
+}
+
+fn note(order: u32, rate: u32, number: u32) {
+    match jivaszte::note(order, rate, number) {
+        Ok((length, delay)) => println!("note {order} {rate} {number}: {length} {delay}"),
+        Err(refusal) => println!("note {order} {rate} {number}: refused by {refusal}"),
+    }
+}
+
+fn record(what: &str, score: &[u8]) {
+    let (rest, fields) = jivaszte::record(score);
+    print!("record {what}: takes {},", score.len() - rest.len());
+    fields.iter().for_each(|n| print!(" {n}"));
+    println!();
+}
+
+fn run(what: &str, score: &[u8], room: usize) {
+    let mut output = [7; 16];
+    let r = jivaszte::run(score, &mut output[..room]);
+    print!("run {what}: {} {} {},", r.refusal, r.place, r.written);
+    output.iter().for_each(|y| print!(" {y}"));
+    println!();
+}
+
+fn main() {
+    let paper = [1, 0, 3, 0, 0, 16, 0, 128, 48, 1, 0, 1, 0, 1, 10, 0];
+    let third = [3, 0, 3, 0, 0, 16, 0, 128, 1, 10, 0];
+    let waits = [1, 4, 3, 0, 0, 16, 0, 128, 1, 2, 0, 2, 5, 0, 3, 3, 0, 6, 0];
+    let every = [255, 1, 2, 3, 4, 5, 6, 7, 8, 9, 10, 11, 12, 13, 14, 99];
+    let seed = [64, 1, 2];
+    let mut noise = 0;
+
+    coefficients(1, 2979);
+    coefficients(2, 6145);
+    coefficients(3, 4096);
+    coefficients(1, 2048);
+    coefficients(u32::MAX, u32::MAX);
+    effective_length(2, 9159, 1000);
+    effective_length(1, 6144, 1_000_000);
+    effective_length(0, 4096, 0);
+    effective_length(2, 6144, 0);
+    note(1, 44_100, 69);
+    note(2, 44_100, 69);
+    note(3, 44_100, 69);
+    note(1, 7_999, 69);
+    note(1, 44_100, 128);
+    note(1, 192_000, 0);
+    for _ in 0..3 {
+        println!("draw: {}", jivaszte::draw(&mut noise));
+    }
+    record("of the paper", &paper[8..]);
+    record("with every field", &every);
+    record("cut short", &every[..14]);
+    record("of no byte", &[]);
+    record("with a seed alone", &seed);
+    run("of the paper", &paper, 16);
+    run("with no room left", &paper, 9);
+    run("of order 3", &third, 16);
+    run("of a header cut short", &paper[..7], 16);
+    run("of a change that waits", &waits, 16);
+    run("of nothing", &[], 0);
+}

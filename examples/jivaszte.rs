@@ -1,0 +1,80 @@
+//! The routines of include/jivaszte.h for Rust, with slices and results in place of pointers.
+#![allow(dead_code)]
+
+mod c {
+    #[link(name = "host", kind = "static")]
+    extern "C" {
+        pub fn jivaszte_coefficients(order: u32, delay: u32, a1: &mut i32, a2: &mut i32) -> u32;
+        pub fn jivaszte_effective_length(order: u32, delay: u32, threshold: u32, count: &mut u32) -> u32;
+        pub fn jivaszte_note(order: u32, rate: u32, note: u32, length: &mut u32, delay: &mut u32) -> u32;
+        pub fn jivaszte_draw(noise: &mut u32) -> i32;
+        pub fn jivaszte_record(score: *const u8, length: usize, fields: &mut [u32; 9]) -> usize;
+        pub fn jivaszte_run(
+            score: *const u8,
+            length: usize,
+            output: *mut i32,
+            room: usize,
+            place: &mut usize,
+            written: &mut usize,
+        ) -> u32;
+    }
+}
+
+pub struct Played {
+    pub refusal: u32,
+    pub place: usize,
+    pub written: usize,
+}
+
+/// Plays a score on a voice of its own.
+pub fn run(score: &[u8], output: &mut [i32]) -> Played {
+    let (mut place, mut written) = (0, 0);
+    let (room, to) = (output.len(), output.as_mut_ptr());
+    // SAFETY: every reference is valid for its length, and none overlaps another.
+    let refusal = unsafe { c::jivaszte_run(score.as_ptr(), score.len(), to, room, &mut place, &mut written) };
+    Played { refusal, place, written }
+}
+
+/// Reads a record: the bytes after it, and its nine numbers, of which the first is 0 or a refusal.
+pub fn record(score: &[u8]) -> (&[u8], [u32; 9]) {
+    let mut fields = [0; 9];
+    // SAFETY: as for `run`.
+    let took = unsafe { c::jivaszte_record(score.as_ptr(), score.len(), &mut fields) };
+    (&score[took..], fields)
+}
+
+/// A1 and A2, or the number of a refusal.
+pub fn coefficients(order: u32, delay: u32) -> Result<(i32, i32), u32> {
+    let (mut a1, mut a2) = (0, 0);
+    // SAFETY: as for `run`.
+    match unsafe { c::jivaszte_coefficients(order, delay, &mut a1, &mut a2) } {
+        0 => Ok((a1, a2)),
+        refusal => Err(refusal),
+    }
+}
+
+/// The count, or the number of a refusal.
+pub fn effective_length(order: u32, delay: u32, threshold: u32) -> Result<u32, u32> {
+    let mut count = 0;
+    // SAFETY: as for `run`.
+    match unsafe { c::jivaszte_effective_length(order, delay, threshold, &mut count) } {
+        0 => Ok(count),
+        refusal => Err(refusal),
+    }
+}
+
+/// The length and the delay of a note, or the number of a refusal.
+pub fn note(order: u32, rate: u32, note: u32) -> Result<(u32, u32), u32> {
+    let (mut length, mut delay) = (0, 0);
+    // SAFETY: as for `run`.
+    match unsafe { c::jivaszte_note(order, rate, note, &mut length, &mut delay) } {
+        0 => Ok((length, delay)),
+        refusal => Err(refusal),
+    }
+}
+
+/// A draw on a noise state, which is moved on.
+pub fn draw(noise: &mut u32) -> i32 {
+    // SAFETY: as for `run`.
+    unsafe { c::jivaszte_draw(noise) }
+}

@@ -1,0 +1,105 @@
+/* Jivaszte for C: the routines of target/staticlib/libhost.a, which `rt staticlib host` proves and writes.
+
+   Every routine is safe for every number and every byte. Of its pointers a caller owes what C always asks: none is
+   null, not even with length 0; each refers to as many values as its length or its type says; and what is written
+   overlaps nothing else that is passed. No routine keeps a pointer, allocates, or touches a variable of its own:
+   calls in several threads do not disturb each other.
+
+   A routine that can refuse returns 0, or the number of the first test that was not met, and then leaves 0 in what
+   it is lent for its results. docs/PERFORMANCE.md tells how much stack a run takes. */
+#ifndef JIVASZTE_H
+#define JIVASZTE_H
+
+#include <stddef.h>
+#include <stdint.h>
+
+#ifdef __cplusplus
+extern "C" {
+#endif
+
+/* The numbers by which calls refuse. */
+enum {
+    JIVASZTE_DONE = 0,
+    JIVASZTE_ORDER = 1,
+    JIVASZTE_LENGTH = 2,
+    JIVASZTE_DELAY = 3,
+    JIVASZTE_LOSS = 4,
+    JIVASZTE_ADVANCE = 5,
+    JIVASZTE_CHANGE_WAITS = 6,
+    JIVASZTE_AMPLITUDE = 7,
+    JIVASZTE_COUNT = 8,
+    JIVASZTE_BLOCK_LENGTHS = 9,
+    JIVASZTE_SAMPLE = 10,
+    JIVASZTE_RATE = 11,
+    JIVASZTE_NOTE = 12,
+    JIVASZTE_NOTE_LENGTH = 13,
+    JIVASZTE_CUT_SHORT = 14,
+    JIVASZTE_BIT_MAP = 15,
+    JIVASZTE_OUTPUT_FULL = 16
+};
+
+/* The words of such a number. */
+static inline const char *jivaszte_words(uint32_t number)
+{
+    static const char *const words[] = {
+        "done",
+        "the order is not 1 or 2",
+        "the length is outside 1 to 2048",
+        "the delay is outside the order's range: 2049 to 6144 in order 1, 6145 to 10240 in order 2",
+        "the loss is above 65535",
+        "the advance is above 64",
+        "a change waits",
+        "the amplitude is above 255",
+        "the count is outside 1 to 2048",
+        "input and output differ in length",
+        "an input is outside -8388607 to 8388607",
+        "the rate is outside 8000 to 192000",
+        "the note is above 127",
+        "the note's length is outside 1 to 2048",
+        "the bytes end early",
+        "bit 5 or 6 stands without 4, or bit 7 without 1 or 2",
+        "the wait does not fit the output that is left",
+    };
+    return number < sizeof words / sizeof words[0] ? words[number] : "no number of a refusal";
+}
+
+/* What the nine numbers of a record are. */
+enum {
+    JIVASZTE_FIELD_REFUSAL = 0,
+    JIVASZTE_FIELD_MAP = 1,
+    JIVASZTE_FIELD_WAIT = 2,
+    JIVASZTE_FIELD_LENGTH = 3,
+    JIVASZTE_FIELD_DELAY = 4,
+    JIVASZTE_FIELD_LOSS = 5,
+    JIVASZTE_FIELD_AMPLITUDE = 6,
+    JIVASZTE_FIELD_COUNT = 7,
+    JIVASZTE_FIELD_SEED = 8,
+    JIVASZTE_FIELDS = 9
+};
+
+/* The coefficients of an order and a delay in 1/4,096 of a sample, in units of 1/65,536. Refuses by 1, 3. */
+uint32_t jivaszte_coefficients(uint32_t order, uint32_t delay, int32_t *a1, int32_t *a2);
+
+/* How many of the first 64 values of an eliminator's response to 1,000,000 exceed the threshold. Refuses by 1, 3. */
+uint32_t jivaszte_effective_length(uint32_t order, uint32_t delay, uint32_t threshold, uint32_t *count);
+
+/* The length and the delay by which a voice sounds a note at a rate in samples a second. Refuses by 1, 11, 12, 13. */
+uint32_t jivaszte_note(uint32_t order, uint32_t rate, uint32_t note, uint32_t *length, uint32_t *delay);
+
+/* A draw, -32,768 to 32,767, on a noise state, which is moved on. */
+int32_t jivaszte_draw(uint32_t *noise);
+
+/* Reads the record that a score without its header, or what is left of one, starts with. Returns how many bytes the
+   record takes, and 0 where it is refused, by 14 or 15; the fields that it does not have are 0. */
+size_t jivaszte_record(const uint8_t *score, size_t length, uint32_t fields[JIVASZTE_FIELDS]);
+
+/* Plays a score on a voice of its own. Refuses by 14, those of the opening (1, 2, 3, 5), and at a record by 14, 15,
+   16, 2, 3, 6, 7, 8. place is the index of the record that was refused, the count of records after success, and 0 for
+   the header; written is how many samples of the output the run has filled, also where it was refused. */
+uint32_t jivaszte_run(const uint8_t *score, size_t length, int32_t *output, size_t room, size_t *place, size_t *written);
+
+#ifdef __cplusplus
+}
+#endif
+
+#endif
