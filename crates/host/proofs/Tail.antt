@@ -7,7 +7,7 @@ use Prim.Native.Nat.{ℕ, zero, suc, _-_, _≤_}
 use native.Mathlib.Omega.{arith}
 use lib.Dec.{eqb}
 use lib.ListN.{length, drop, length-drop}
-use Rattle.score.specs.Record.{bytes, mapOf, recordNumber, rest}
+use Rattle.record.specs.Record.{bytes, mapOf, recordNumber, rest}
 
 none : (s : List ℕ) → length s - length s ≡ 0
 none s = omega arith

@@ -7,7 +7,7 @@ ghost use Rattle.thiran.specs.Answers.{answer};
 ghost use Rattle.allpass.specs.Length.{effectiveLength};
 ghost use Rattle.pitch.specs.Pitch.{pitch};
 ghost use Rattle.noise.specs.Noise.{drawn};
-ghost use Rattle.score.specs.Record.{fields as Fields, rest as Rest};
+ghost use Rattle.record.specs.Record.{fields as Fields, rest as Rest};
 ghost use Rattle.score.specs.Played.{Runs};
 
 // A1 and A2 of an order and a delay.
@@ -72,7 +72,7 @@ pub extern "C" fn jivaszte_record(score: &[u8], fields: &mut [u32; 9]) -> usize
     ensures { λ _. ⌜ now (fields .exit) ≡ Fields (now (score .entry)) ⌝ }
     ensures { λ r. ⌜ (r ≤ length (now (score .entry))) × (drop r (now (score .entry)) ≡ Rest (now (score .entry))) ⌝ }
 {
-    let rest = score::record::read_record(score, fields);
+    let rest = record::read_record(score, fields);
     score.len() - rest.len()
 }
 
@@ -87,7 +87,7 @@ pub extern "C" fn jivaszte_run(
     ensures { λ r. ⌜ Runs (now (score .entry)) (now (output .entry))
         (record { refusal = r; place = now (place .exit); written = now (written .exit) }) (now (output .exit)) ⌝ }
 {
-    let p = score::run::run(score, output);
+    let p = score::run(score, output);
     *place = p.place;
     *written = p.written;
     p.refusal
