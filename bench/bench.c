@@ -7,7 +7,7 @@
 #include <string.h>
 #include <time.h>
 
-enum { ROUNDS = 10, RUNS = 15, SAMPLES = 1 << 17, RECORDS = 1 << 14, ROWS = 18 };
+enum { ROUNDS = 20, RUNS = 15, SAMPLES = 1 << 17, RECORDS = 1 << 14, ROWS = 18 };
 
 static const uint32_t waits[] = { 64, 1024, 65535 };
 static const char *const changes[] = { "none", "announced", "instant" };
@@ -104,6 +104,17 @@ static void print(const Row *r)
            r->agree ? "yes" : "NO");
 }
 
+/* What a sample, a record and a change with its eliminator cost, in nanoseconds, from the rows of one order. */
+static void costs(const Row *none, const Row *announced, const Row *instant)
+{
+    for (int k = 0; k < 2; k++) {
+        double sample = none[2].best[k] / none[2].written, record = none[0].best[k] / none[0].written;
+        double a = announced[0].best[k] / announced[0].written, i = instant[0].best[k] / instant[0].written;
+        printf("| %u | %s | %.2f | %.0f | %.0f | %.0f |\n", none->order, k ? "proved" : "C", 1e9 * sample,
+               64e9 * (record - sample), 64e9 * (a - record), 64e9 * (i - record));
+    }
+}
+
 int main(void)
 {
     static Row rows[ROWS];
@@ -125,8 +136,12 @@ int main(void)
         agree &= rows[i].agree;
         print(&rows[i]);
     }
-    printf("\nleast ratio at waits of 64: %.2f; of 1,024 and more: %.2f\n", least[0], least[1]);
-    printf("record reader: C %.0f, proved %.0f million records a second, ratio %.2f\n", RECORDS / best[0] / 1e6,
+    printf("\nleast ratio at waits of 64: %.3f; of 1,024 and more: %.3f\n", least[0], least[1]);
+    printf("\n| order | nanoseconds of | a sample | a record | an announced change | an instant change |\n");
+    printf("|---|---|---|---|---|---|\n");
+    costs(rows, rows + 6, rows + 12);
+    costs(rows + 3, rows + 9, rows + 15);
+    printf("\nrecord reader: C %.0f, proved %.0f million records a second, ratio %.2f\n", RECORDS / best[0] / 1e6,
            RECORDS / best[1] / 1e6, best[0] / best[1]);
     printf(agree ? "every number and every sample agrees\n" : "NOT ALL AGREE\n");
     return agree ? 0 : 1;
