@@ -17,9 +17,9 @@ use crate::print::samples;
 use crate::print::short;
 use crate::shown::past;
 use crate::shown::state;
+use parts::Head;
 use text::words::before;
 use text::words::word;
-use parts::Head;
 
 // The name that a line starts with.
 fn name(buffer: &mut [u8; 4096], out: Out, line: &[u8]) -> Out {
