@@ -1,6 +1,3 @@
-pub mod Sequence
-pub mod Following
-pub mod Waits
 pub mod Playing
 pub mod Turns
 pub mod Header

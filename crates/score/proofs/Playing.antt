@@ -13,7 +13,8 @@ use Rattle.refusal.proofs.Returned.{returned}
 use Rattle.rule.specs.Calls.{Call}
 use Rattle.rule.specs.State.{State, from, puts}
 use Rattle.record.specs.Record.{recordLimits, recordNumber, fields, rest}
-use Rattle.score.specs.Run.{Outcome, value, ends, joined, result, recordCalls, playLimits, played, records}
+use Rattle.follow.specs.Follow.{value, result, recordCalls}
+use Rattle.score.specs.Run.{Outcome, ends, joined, playLimits, played, records}
 use Rattle.score.specs.Run.{allRecords}
 use Rattle.score.specs.Played.{over, Plays}
 use Rattle.record.proofs.Reading.{record-returned}

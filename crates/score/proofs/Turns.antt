@@ -12,11 +12,12 @@ use Rattle.refusal.specs.Limits.{refusal}
 use Rattle.rule.specs.Calls.{Call}
 use Rattle.rule.specs.State.{State, from, puts, blockOut}
 use Rattle.record.specs.Record.{mapOf, bytes, fields, rest}
-use Rattle.score.specs.Run.{Outcome, value, ends, joined, result, recordCalls, playLimits, records, allRecords}
+use Rattle.follow.specs.Follow.{value, result, recordCalls}
+use Rattle.score.specs.Run.{Outcome, ends, joined, playLimits, records, allRecords}
 use Rattle.score.specs.Played.{over, Plays}
 use Rattle.record.proofs.Reading.{taken-rest}
-use Rattle.score.proofs.Sequence.{from-append, puts-append}
-use Rattle.score.proofs.Waits.{record-puts, out-length}
+use Rattle.follow.proofs.Sequence.{from-append, puts-append}
+use Rattle.follow.proofs.Waits.{record-puts, out-length}
 use Rattle.score.proofs.Playing.{Playing, has-room, later, opens, played-stops, played-all, plays-as}
 
 pub over-length : (ys out : List ℤ) → length ys ≤ length out → length (over ys out) ≡ length out

@@ -5,20 +5,9 @@ use mathlib.Core.List.{List, _++_}
 use Prim.Native.Nat.{ℕ}
 use lib.IntN.{ℤ}
 use lib.ListN.{length, drop}
-use Rattle.rule.specs.Calls.{Call}
-use Rattle.rule.specs.State.{State, from, puts, fresh}
-use Rattle.parts.specs.declared.Head.{Head}
-use Rattle.parts.specs.declared.Answer.{Answer}
-use Rattle.parts.specs.Struct.{stateOf}
-use Rattle.parts.specs.Valid.{Valid}
+use Rattle.rule.specs.State.{State, puts, fresh}
 use Rattle.score.specs.declared.Played.{Played}
-use Rattle.score.specs.Run.{Outcome, result, allRecords, opening, run}
-
--- the calls cs on a head and the line l, which is left as k: the number that ends them, and the voice
-pub record Does (h : Head) (l : List ℤ) (cs : List Call) (r : Answer) (k : List ℤ) : Type 0 where
-  pub number : r .refusal ≡ result (stateOf h l) cs
-  pub state : stateOf (r .head) k ≡ from (stateOf h l) cs
-  pub valid : Valid (r .head) k
+use Rattle.score.specs.Run.{Outcome, allRecords, opening, run}
 
 -- "Samples already written stand and are counted; the rest of the output is untouched"
 abbrev pub over : List ℤ → List ℤ → List ℤ

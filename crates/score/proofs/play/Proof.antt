@@ -13,7 +13,8 @@ use Rattle.rule.specs.State.{State, from, puts}
 use Rattle.parts.specs.Struct.{stateOf}
 use Rattle.parts.specs.Valid.{Valid}
 use Rattle.record.specs.Record.{recordLimits, fields}
-use Rattle.score.specs.Run.{value, fits, playLimits, result, recordCalls}
+use Rattle.follow.specs.Follow.{value, result, recordCalls}
+use Rattle.score.specs.Run.{fits, playLimits}
 use Rattle.score.proofs.Playing.{Playing, begun, read-number, has-room, all-played, refused}
 use Rattle.score.proofs.Turns.{part-length, still-long, stopped, shorter, goes-on}
 use Rattle.score.proofs.play.Statement.{statement}

@@ -1,4 +1,4 @@
--- `score::change` meets its contract: no call, an announced change or an instant one.
+-- `follow::change` meets its contract: no call, an announced change or an instant one.
 -- Assumes nothing.
 use mathlib.Core.Path.{_≡_, sym, ap, _∙_}
 use mathlib.Core.Bool.{cond}
@@ -11,11 +11,11 @@ use Rattle.rule.specs.State.{State}
 use Rattle.parts.specs.declared.Head.{Head}
 use Rattle.parts.specs.Struct.{stateOf}
 use Rattle.parts.proofs.Called.{on}
-use Rattle.score.specs.Run as Run
-use Rattle.score.proofs.Following.{part-none, part-one, announced, at-once, on-as}
+use Rattle.follow.specs.Follow as Run
+use Rattle.follow.proofs.Following.{part-none, part-one, announced, at-once, on-as}
 use borrow.Author.Needs.{needs}
-use Rattle.score.proofs.change.Statement.{statement}
-use Rattle.score.proofs.change.Tie as tie
+use Rattle.follow.proofs.change.Statement.{statement}
+use Rattle.follow.proofs.change.Tie as tie
 
 module _ (s : tie.Start) where
   abbrev head : Head

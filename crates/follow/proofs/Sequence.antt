@@ -9,7 +9,7 @@ use lib.Dec.{eqb}
 use lib.IntN.{ℤ}
 use Rattle.rule.specs.Calls.{Call, number}
 use Rattle.rule.specs.State.{State, call, put, from, puts}
-use Rattle.score.specs.Run.{result, then}
+use Rattle.follow.specs.Follow.{result, then}
 
 pub from-append : (v : State) (cs ds : List Call) → from v (cs ++ ds) ≡ from (from v cs) ds
 from-append v [] ds = refl

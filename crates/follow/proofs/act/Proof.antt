@@ -1,15 +1,15 @@
--- `score::act` meets its contract: three parts, one after the other.
+-- `follow::act` meets its contract: three parts, one after the other.
 -- Assumes nothing.
 use mathlib.Core.List.{List}
 use Prim.Native.Nat.{ℕ}
 use lib.IntN.{ℤ}
 use Rattle.parts.specs.Struct.{stateOf}
-use Rattle.score.specs.Run.{lossCalls, changeCalls, pluckCalls, then, actCalls}
-use Rattle.score.specs.Played.{Does}
-use Rattle.score.proofs.Following.{does-stops, does-then}
+use Rattle.follow.specs.Follow.{lossCalls, changeCalls, pluckCalls, then, actCalls}
+use Rattle.follow.specs.Does.{Does}
+use Rattle.follow.proofs.Following.{does-stops, does-then}
 use borrow.Author.Needs.{needs}
-use Rattle.score.proofs.act.Statement.{statement}
-use Rattle.score.proofs.act.Tie as tie
+use Rattle.follow.proofs.act.Statement.{statement}
+use Rattle.follow.proofs.act.Tie as tie
 
 losses : (c : tie.After-set-loss) → Does (c .before .args .head) (c .before .args .line .now)
     (lossCalls (c .before .args .r .now) (stateOf (c .before .args .head) (c .before .args .line .now)))

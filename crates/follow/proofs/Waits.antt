@@ -18,10 +18,10 @@ use Rattle.parts.specs.Struct.{stateOf}
 use Rattle.parts.specs.Valid.{Valid}
 use Rattle.parts.proofs.Called.{call-accepted}
 use Rattle.block.proofs.Blocks.{plays}
-use Rattle.score.specs.Run.{value, stands, absent, waitCalls, lossCalls, change, changeCalls, pluckCalls}
-use Rattle.score.specs.Run.{lengthTo, delayTo, result, then, actCalls, recordCalls}
-use Rattle.score.specs.Played.{Does}
-use Rattle.score.proofs.Sequence.{puts-append, result-one, then-past}
+use Rattle.follow.specs.Follow.{value, stands, absent, waitCalls, lossCalls, change, changeCalls, pluckCalls}
+use Rattle.follow.specs.Follow.{lengthTo, delayTo, result, then, actCalls, recordCalls}
+use Rattle.follow.specs.Does.{Does}
+use Rattle.follow.proofs.Sequence.{puts-append, result-one, then-past}
 
 -- ---- calls without steps
 pub data Still : List Call → Type 0 where

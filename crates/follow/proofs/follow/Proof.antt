@@ -1,4 +1,4 @@
--- `score::follow` meets its contract: the wait as a block of zeros, and then the rest of the record.
+-- `follow::follow` meets its contract: the wait as a block of zeros, and then the rest of the record.
 -- Assumes nothing.
 use mathlib.Core.Path.{_≡_, refl, sym, ap, subst, _∙_}
 use mathlib.Core.List.{List}
@@ -9,12 +9,12 @@ use Rattle.integer.specs.Rounding.{M}
 use Rattle.samples.specs.Samples.{loudest}
 use Rattle.rule.specs.State.{blockOut}
 use Rattle.parts.specs.Struct.{stateOf}
-use Rattle.score.specs.Run.{value, waitCalls, actCalls, recordCalls}
-use Rattle.score.proofs.Following.{does-then}
-use Rattle.score.proofs.Waits.{zeros-quiet, wait-does, record-puts}
+use Rattle.follow.specs.Follow.{value, waitCalls, actCalls, recordCalls}
+use Rattle.follow.proofs.Following.{does-then}
+use Rattle.follow.proofs.Waits.{zeros-quiet, wait-does, record-puts}
 use borrow.Author.Needs.{needs}
-use Rattle.score.proofs.follow.Statement.{statement}
-use Rattle.score.proofs.follow.Tie as tie
+use Rattle.follow.proofs.follow.Statement.{statement}
+use Rattle.follow.proofs.follow.Tie as tie
 
 clear-requires : tie.Need-clear-requires
 clear-requires c κs = search needs

@@ -1,4 +1,4 @@
--- `score::pluck` meets its contract: no call, or that of the pluck.
+-- `follow::pluck` meets its contract: no call, or that of the pluck.
 -- Assumes nothing.
 use mathlib.Core.Path.{_≡_, sym, ap, _∙_}
 use mathlib.Core.Bool.{cond}
@@ -7,11 +7,11 @@ use lib.Dec.{eqb}
 use Rattle.rule.specs.Calls.{Call, pluck}
 use Rattle.parts.specs.Struct.{stateOf}
 use Rattle.parts.proofs.Called.{on}
-use Rattle.score.specs.Run.{value, stands, countOf}
-use Rattle.score.proofs.Following.{part-none, part-one, on-as}
+use Rattle.follow.specs.Follow.{value, stands, countOf}
+use Rattle.follow.proofs.Following.{part-none, part-one, on-as}
 use borrow.Author.Needs.{needs}
-use Rattle.score.proofs.pluck.Statement.{statement}
-use Rattle.score.proofs.pluck.Tie as tie
+use Rattle.follow.proofs.pluck.Statement.{statement}
+use Rattle.follow.proofs.pluck.Tie as tie
 
 element-copy-out-map : tie.Need-element-copy-out-map
 element-copy-out-map c = search needs

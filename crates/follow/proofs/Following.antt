@@ -14,9 +14,9 @@ use Rattle.parts.specs.declared.Answer.{Answer}
 use Rattle.parts.specs.Struct.{stateOf}
 use Rattle.parts.specs.Valid.{Valid}
 use Rattle.parts.specs.Called.{On}
-use Rattle.score.specs.Run.{stands, lengthTo, delayTo, change, result, then}
-use Rattle.score.specs.Played.{Does}
-use Rattle.score.proofs.Sequence.{from-append, result-past, result-one, then-past, then-stops}
+use Rattle.follow.specs.Follow.{stands, lengthTo, delayTo, change, result, then}
+use Rattle.follow.specs.Does.{Does}
+use Rattle.follow.proofs.Sequence.{from-append, result-past, result-one, then-past, then-stops}
 
 pub does-none : {h : Head} {l : List ℤ} → Valid h l → Does h l [] (record { refusal = 0; head = h }) l
 does-none g = record { number = refl; state = refl; valid = g }

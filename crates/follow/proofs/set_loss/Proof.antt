@@ -1,14 +1,14 @@
--- `score::set_loss` meets its contract: no call, or that of the loss.
+-- `follow::set_loss` meets its contract: no call, or that of the loss.
 -- Assumes nothing.
 use mathlib.Core.Path.{_≡_, sym, _∙_}
 use Prim.Native.Nat.{ℕ}
 use Rattle.rule.specs.Calls.{loss}
 use Rattle.parts.proofs.Called.{on}
-use Rattle.score.specs.Run.{value, stands}
-use Rattle.score.proofs.Following.{part-none, part-one}
+use Rattle.follow.specs.Follow.{value, stands}
+use Rattle.follow.proofs.Following.{part-none, part-one}
 use borrow.Author.Needs.{needs}
-use Rattle.score.proofs.set_loss.Statement.{statement}
-use Rattle.score.proofs.set_loss.Tie as tie
+use Rattle.follow.proofs.set_loss.Statement.{statement}
+use Rattle.follow.proofs.set_loss.Tie as tie
 
 element-copy-out-bit : tie.Need-element-copy-out-bit
 element-copy-out-bit c = search needs

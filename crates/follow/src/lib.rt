@@ -1,0 +1,107 @@
+// One record of a score on a voice: its wait, and then what it sets, changes and plucks.
+// A record is the nine numbers that reading it gives.
+ghost use mathlib.Core.Path.{_≡_};
+ghost use mathlib.Core.Bool.{cond};
+ghost use mathlib.Core.List.{List};
+ghost use lib.Dec.{eqb};
+ghost use lib.IntN.{ℤ};
+ghost use lib.ListN.{length};
+ghost use Rattle.rule.specs.State.{puts};
+ghost use Rattle.parts.specs.Struct.{stateOf};
+ghost use Rattle.parts.specs.Valid.{Fit, Valid};
+ghost use Rattle.follow.specs.Follow.{value, lossCalls, changeCalls, pluckCalls, actCalls, recordCalls};
+ghost use Rattle.follow.specs.Does.{Does};
+use parts::Answer;
+use parts::Head;
+use record::bit;
+
+// Sets G, where the record has one.
+fn set_loss(head: Head, r: &[u32; 9]) -> Answer
+    requires { ⌜ Fit head ⌝ }
+    ensures { λ a. ⌜ ((l : List ℤ) → Valid head l
+        → Does head l (lossCalls (now (r .entry)) (stateOf head l)) a l) ⌝ }
+{
+    if bit(r[1], 8) == 0 {
+        return Answer {
+            refusal: 0,
+            head: head,
+        };
+    }
+    voice::calls::loss(head, r[5])
+}
+
+// Changes L or d, where the record has one of them, to it and the other that is in force.
+fn change(line: &[i32; 2112], head: Head, r: &[u32; 9]) -> Answer
+    requires { ⌜ Valid head (now line) ⌝ }
+    ensures { λ a. ⌜ Does head (now (line .entry)) (changeCalls (now (r .entry)) (stateOf head (now (line .entry)))) a
+        (now (line .entry)) ⌝ }
+{
+    let map = r[1];
+    if bit(map, 2) + bit(map, 4) == 0 {
+        return Answer {
+            refusal: 0,
+            head: head,
+        };
+    }
+    let length = chosen(bit(map, 2), r[3], head.filter.tuning.length);
+    let delay = chosen(bit(map, 4), r[4], head.filter.tuning.delay);
+    if bit(map, 128) == 0 {
+        return change::announce(head, length, delay);
+    }
+    let c = change::instant(line, head, length, delay);
+    c.answer
+}
+
+// Plucks, where the record has an amplitude, for its count or as many steps as the L in force.
+fn pluck(head: Head, r: &[u32; 9]) -> Answer
+    requires { ⌜ Fit head ⌝ }
+    ensures { λ a. ⌜ ((l : List ℤ) → Valid head l
+        → Does head l (pluckCalls (now (r .entry)) (stateOf head l)) a l) ⌝ }
+{
+    let map = r[1];
+    if bit(map, 16) == 0 {
+        return Answer {
+            refusal: 0,
+            head: head,
+        };
+    }
+    let count = chosen(bit(map, 32), r[7], head.filter.tuning.length);
+    voice::calls::pluck(head, r[6], count, r[8])
+}
+
+// A field where its bit stands, else the number in its place.
+fn chosen(bit: u32, field: u32, other: u32) -> u32
+    ensures { λ r. ⌜ r ≡ cond (eqb bit 0) other field ⌝ }
+{
+    if bit == 0 { other } else { field }
+}
+
+// A record but for its wait: G, then the change, then the pluck, until one is refused.
+fn act(line: &[i32; 2112], head: Head, r: &[u32; 9]) -> Answer
+    requires { ⌜ Valid head (now line) ⌝ }
+    ensures { λ a. ⌜ Does head (now (line .entry)) (actCalls (now (r .entry)) (stateOf head (now (line .entry)))) a
+        (now (line .entry)) ⌝ }
+{
+    let g = set_loss(head, r);
+    if g.refusal != 0 {
+        return g;
+    }
+    let c = change(line, g.head, r);
+    if c.refusal != 0 {
+        return c;
+    }
+    pluck(c.head, r)
+}
+
+// A record: its wait, over a buffer as long, and then what it sets.
+pub fn follow(line: &mut [i32; 2112], head: Head, r: &[u32; 9], buffer: &mut [i32]) -> Answer
+    requires { ⌜ Valid head (now line) × (length (now buffer) ≡ value (now r) 0) ⌝ }
+    ensures { λ a. ⌜ Does head (now (line .entry)) (recordCalls (now (r .entry)) (stateOf head (now (line .entry)))) a
+        (now (line .exit)) ⌝ }
+    ensures { λ _. ⌜ now (buffer .exit)
+        ≡ puts (stateOf head (now (line .entry))) (recordCalls (now (r .entry)) (stateOf head (now (line .entry)))) ⌝ }
+{
+    samples::clear(buffer);
+    let h = render::render(line, head, buffer);
+    act(line, h, r)
+}
