@@ -2,7 +2,7 @@
 #![allow(dead_code)]
 
 mod c {
-    #[link(name = "host", kind = "static")]
+    #[link(name = "jivaszte", kind = "static")]
     extern "C" {
         pub fn jivaszte_coefficients(order: u32, delay: u32, a1: &mut i32, a2: &mut i32) -> u32;
         pub fn jivaszte_effective_length(order: u32, delay: u32, threshold: u32, count: &mut u32) -> u32;

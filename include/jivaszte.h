@@ -1,4 +1,5 @@
-/* Jivaszte for C: the routines of target/staticlib/libhost.a, which `rt staticlib host` proves and writes.
+/* Jivaszte for C: the routines of target/staticlib/libjivaszte.a, which `rt staticlib jivaszte` proves and
+   writes.
 
    Every routine is safe for every number and every byte. Of its pointers a caller owes what C always asks: none is
    null, not even with length 0; each refers to as many values as its length or its type says; and what is written

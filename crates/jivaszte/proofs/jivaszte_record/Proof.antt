@@ -1,14 +1,14 @@
--- `host::jivaszte_record` meets its contract: the bytes of a record are those that the rest of the score lacks.
+-- `jivaszte::jivaszte_record` meets its contract: the bytes of a record are those that the rest of the score lacks.
 -- Assumes nothing.
 use mathlib.Core.Path.{_≡_, ap, _∙_}
 use mathlib.Core.List.{List}
 use Prim.Native.Nat.{ℕ, _-_}
 use native.Mathlib.Omega.{arith}
 use lib.ListN.{length, drop}
-use Rattle.host.proofs.Tail.{shorter, tail}
+use Rattle.jivaszte.proofs.Tail.{shorter, tail}
 use borrow.Author.Needs.{needs}
-use Rattle.host.proofs.jivaszte_record.Statement.{statement}
-use Rattle.host.proofs.jivaszte_record.Tie as tie
+use Rattle.jivaszte.proofs.jivaszte_record.Statement.{statement}
+use Rattle.jivaszte.proofs.jivaszte_record.Tie as tie
 
 read-record-requires : tie.Need-read-record-requires
 read-record-requires c κs = search needs

@@ -1,8 +1,8 @@
--- `host::jivaszte_run` meets its contract: what the run returned stands in its result and in what it is lent.
+-- `jivaszte::jivaszte_run` meets its contract: what the run returned stands in its result and in what it is lent.
 -- Assumes nothing.
 use borrow.Author.Needs.{needs}
-use Rattle.host.proofs.jivaszte_run.Statement.{statement}
-use Rattle.host.proofs.jivaszte_run.Tie as tie
+use Rattle.jivaszte.proofs.jivaszte_run.Statement.{statement}
+use Rattle.jivaszte.proofs.jivaszte_run.Tie as tie
 
 run-requires : tie.Need-run-requires
 run-requires c κs = search needs
