@@ -1,5 +1,5 @@
 // The loops over a block's samples while no pluck sounds: with nothing waiting, and with a change that waits.
-// State is in locals, and a loop is compiled for each order; what is compared sample by sample is in crate step.
+// The state is in locals, a loop is compiled for each order, and each sample is made by crate step.
 ghost use mathlib.Core.Path.{_≡_};
 ghost use Prim.Native.Nat.{_+_, _≤_};
 ghost use lib.ListN.{length};
