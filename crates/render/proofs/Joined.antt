@@ -10,8 +10,8 @@ use lib.Seq.{length-take-le, take-append-add, drop-append-add, take-append-seam,
 use Rattle.integer.specs.Rounding.{M}
 use Rattle.samples.specs.Samples.{loudest}
 use Rattle.rule.specs.State.{State, step, sounds, blockAfter, blockOut}
-use Rattle.render.specs.Rendered.{Rendered}
-use Rattle.render.proofs.Rendered.{all-after, all-out}
+use Rattle.loops.specs.Rendered.{Rendered}
+use Rattle.loops.proofs.Rendered.{all-after, all-out}
 
 -- ---- inputs one after the other
 after-append : (v : State) (xs ys : List ℤ) → blockAfter v (xs ++ ys) ≡ blockAfter (blockAfter v xs) ys

@@ -8,15 +8,12 @@ ghost use Rattle.samples.specs.Samples.{loudest};
 ghost use Rattle.rule.specs.State.{blockAfter, blockOut};
 ghost use Rattle.parts.specs.Struct.{stateOf};
 ghost use Rattle.parts.specs.Valid.{Valid};
-ghost use Rattle.render.specs.Rendered.{Rendered};
-use crate::loops::ahead;
-use crate::loops::steady;
+ghost use Rattle.loops.specs.Rendered.{Rendered};
+use loops::ahead;
+use loops::steady;
 use parts::Head;
 use parts::Waiting;
 use step::step;
-
-mod carried;
-mod loops;
 
 // A voice once the first samples of a buffer are rendered, so many as are done.
 pub struct Part {

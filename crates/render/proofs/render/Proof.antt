@@ -13,8 +13,8 @@ use lib.Seq.{drop-length}
 use Rattle.rule.specs.State.{State}
 use Rattle.parts.specs.Struct.{stateOf}
 use Rattle.parts.specs.Valid.{Valid}
-use Rattle.render.specs.Rendered.{Rendered}
-use Rattle.render.proofs.Rendered.{begun, all-after, all-out}
+use Rattle.loops.specs.Rendered.{Rendered}
+use Rattle.loops.proofs.Rendered.{begun, all-after, all-out}
 use Rattle.render.proofs.Joined.{rendered-then}
 use Rattle.render.proofs.render.Statement.{statement}
 use Rattle.render.proofs.render.Tie as tie

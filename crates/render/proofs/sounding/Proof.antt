@@ -11,8 +11,8 @@ use Rattle.integer.specs.Rounding.{M}
 use Rattle.rule.specs.State.{State, step}
 use Rattle.parts.specs.Struct.{stateOf}
 use Rattle.parts.specs.Valid.{Valid}
-use Rattle.render.specs.Rendered.{Rendered}
-use Rattle.render.proofs.Rendered.{begun, sample, rendered}
+use Rattle.loops.specs.Rendered.{Rendered}
+use Rattle.loops.proofs.Rendered.{begun, sample, rendered}
 use Rattle.render.proofs.sounding.Statement.{statement}
 use Rattle.render.proofs.sounding.Tie as tie
 

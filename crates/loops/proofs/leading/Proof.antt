@@ -1,4 +1,4 @@
--- `render::loops::leading` meets its contract: the invariant is `Rendered`, of the head that is carried on with its change.
+-- `loops::leading` meets its contract: the invariant is `Rendered`, of the head that is carried on with its change.
 -- Assumes nothing.
 use mathlib.Core.Path.{_≡_, sym, ap, subst, _∙_}
 use mathlib.Core.List.{List}
@@ -18,12 +18,12 @@ use Rattle.parts.specs.Valid.{Tuned, Waits, Waiting-valid, Valid}
 use Rattle.parts.proofs.Within.{read-within}
 use Rattle.line.specs.Ring.{ring}
 use Rattle.step.specs.Sample.{Moved}
-use Rattle.render.specs.Carried.{anewOf, carriedOf, dueOf}
-use Rattle.render.specs.Rendered.{Rendered}
-use Rattle.render.proofs.Rendered.{begun, sample, rendered}
-use Rattle.render.proofs.Carrying.{as-anew, led-steps, due-later, due-self}
-use Rattle.render.proofs.loops.leading.Statement.{statement}
-use Rattle.render.proofs.loops.leading.Tie as tie
+use Rattle.loops.specs.Carried.{anewOf, carriedOf, dueOf}
+use Rattle.loops.specs.Rendered.{Rendered}
+use Rattle.loops.proofs.Rendered.{begun, sample, rendered}
+use Rattle.loops.proofs.Carrying.{as-anew, led-steps, due-later, due-self}
+use Rattle.loops.proofs.leading.Statement.{statement}
+use Rattle.loops.proofs.leading.Tie as tie
 
 abbrev Inv-loop : tie.InvT-loop
 Inv-loop line₀ order h e taken buffer₀ v₀ u₀ last₀ at₀ i₀ line buffer v u last at i =

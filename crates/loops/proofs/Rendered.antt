@@ -11,7 +11,7 @@ use lib.Seq.{drop-cons, drop-set-lt, take-suc-set, take-all, drop-length}
 use Rattle.integer.specs.Rounding.{M}
 use Rattle.samples.specs.Samples.{loudest}
 use Rattle.rule.specs.State.{State, step, sounds, blockAfter, blockOut}
-use Rattle.render.specs.Rendered.{Rendered}
+use Rattle.loops.specs.Rendered.{Rendered}
 
 pub begun : (xs : List ℤ) (v : State) → loudest xs ≤ M → Rendered xs v xs v 0
 begun xs v h = record { within = omega arith; long = refl; left = refl; out = refl; quiet = h }

@@ -1,4 +1,4 @@
--- `render::loops::ahead` meets its contract: what waits is put in force, or waits on.
+-- `loops::ahead` meets its contract: what waits is put in force, or waits on.
 -- Assumes nothing.
 use mathlib.Core.Path.{sym, subst}
 use lib.ListN.{length}
@@ -6,9 +6,9 @@ use borrow.Author.Needs.{needs}
 use Rattle.parts.specs.declared.Head.{Head}
 use Rattle.parts.specs.Struct.{stateOf}
 use Rattle.parts.specs.Valid.{Valid}
-use Rattle.render.specs.Rendered.{Rendered}
-use Rattle.render.proofs.loops.ahead.Statement.{statement}
-use Rattle.render.proofs.loops.ahead.Tie as tie
+use Rattle.loops.specs.Rendered.{Rendered}
+use Rattle.loops.proofs.ahead.Statement.{statement}
+use Rattle.loops.proofs.ahead.Tie as tie
 
 led-requires : tie.Need-led-requires
 led-requires c κs = search needs

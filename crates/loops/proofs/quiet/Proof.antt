@@ -1,4 +1,4 @@
--- `render::loops::quiet` meets its contract: the invariant is `Rendered`, of the head that is carried on.
+-- `loops::quiet` meets its contract: the invariant is `Rendered`, of the head that is carried on.
 -- Assumes nothing.
 use mathlib.Core.Path.{_≡_, refl, sym, ap, subst, _∙_}
 use mathlib.Core.List.{List}
@@ -13,12 +13,12 @@ use Rattle.parts.specs.declared.Filter.{Filter}
 use Rattle.parts.specs.declared.Head.{Head}
 use Rattle.parts.specs.Struct.{stateOf}
 use Rattle.parts.specs.Valid.{Tuned, Valid}
-use Rattle.render.specs.Carried.{anewOf, carriedOf}
-use Rattle.render.specs.Rendered.{Rendered}
-use Rattle.render.proofs.Rendered.{begun, sample, rendered}
-use Rattle.render.proofs.Carrying.{as-anew, anew-self, carried-self, quiet-steps}
-use Rattle.render.proofs.loops.quiet.Statement.{statement}
-use Rattle.render.proofs.loops.quiet.Tie as tie
+use Rattle.loops.specs.Carried.{anewOf, carriedOf}
+use Rattle.loops.specs.Rendered.{Rendered}
+use Rattle.loops.proofs.Rendered.{begun, sample, rendered}
+use Rattle.loops.proofs.Carrying.{as-anew, anew-self, carried-self, quiet-steps}
+use Rattle.loops.proofs.quiet.Statement.{statement}
+use Rattle.loops.proofs.quiet.Tie as tie
 
 abbrev Inv-loop : tie.InvT-loop
 Inv-loop line₀ order h buffer₀ v₀ last₀ at₀ i₀ line buffer v last at i =

@@ -8,8 +8,8 @@ ghost use Rattle.samples.specs.Samples.{loudest};
 ghost use Rattle.parts.specs.declared.Waiting.the-variants.{Idle, Announced};
 ghost use Rattle.parts.specs.Struct.{stateOf};
 ghost use Rattle.parts.specs.Valid.{Valid};
-ghost use Rattle.render.specs.Carried.{dueOf};
-ghost use Rattle.render.specs.Rendered.{Rendered};
+ghost use Rattle.loops.specs.Carried.{dueOf};
+ghost use Rattle.loops.specs.Rendered.{Rendered};
 use crate::carried::anew;
 use crate::carried::carried;
 use crate::carried::due;
@@ -18,6 +18,8 @@ use parts::Filter;
 use parts::Head;
 use step::circulate;
 use step::moved;
+
+mod carried;
 
 // A head with nothing waiting, and an eliminator beside it.
 pub struct Beside {

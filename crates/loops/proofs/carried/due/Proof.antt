@@ -1,4 +1,4 @@
--- `render::carried::due` meets its contract: by whether the eliminator has taken enough.
+-- `loops::carried::due` meets its contract: by whether the eliminator has taken enough.
 -- Assumes nothing.
 use mathlib.Core.Path.{sym, ap, _∙_}
 use mathlib.Core.Bool.{Bool, cond}
@@ -6,8 +6,8 @@ use borrow.Author.Needs.{needs}
 use borrow.Author.Tests.{eq-eqb, ne-eqb}
 use Rattle.parts.specs.declared.Waiting.the-variants.{Idle, Announced}
 use Rattle.parts.specs.Struct.{withOf}
-use Rattle.render.proofs.carried.due.Statement.{statement}
-use Rattle.render.proofs.carried.due.Tie as tie
+use Rattle.loops.proofs.carried.due.Statement.{statement}
+use Rattle.loops.proofs.carried.due.Tie as tie
 
 with-requires : tie.Need-with-requires
 with-requires c κs = search needs

@@ -28,7 +28,7 @@ use Rattle.step.specs.Sample.{Moved, Settles, Circulates, Steps}
 use Rattle.step.proofs.Silent.{sounds-none}
 use Rattle.step.proofs.Settles.{settles-idle, settles-now, settles-later}
 use Rattle.step.proofs.Steps.{heard-fit, heard-waiting, steps}
-use Rattle.render.specs.Carried.{anewOf, carriedOf, dueOf}
+use Rattle.loops.specs.Carried.{anewOf, carriedOf, dueOf}
 
 -- ---- filters
 -- a filter of the same tuning is f with its state
