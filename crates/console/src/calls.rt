@@ -6,16 +6,15 @@ ghost use Prim.Native.Nat.{_≤_};
 ghost use lib.IntN.{ℤ};
 ghost use lib.ListN.{length};
 ghost use Rattle.parts.specs.Valid.{Fit, Valid};
-ghost use Rattle.console.specs.Within.{Within};
-use crate::kinds::ANNOUNCE;
-use crate::kinds::BLOCK;
-use crate::kinds::INSTANT;
-use crate::kinds::LOSS;
-use crate::kinds::OPEN;
-use crate::kinds::PLUCK;
-use crate::parse::Line;
 use parts::Answer;
 use parts::Head;
+use request::Request;
+use request::kinds::ANNOUNCE;
+use request::kinds::INSTANT;
+use request::kinds::LOSS;
+use request::kinds::OPEN;
+use request::kinds::PLUCK;
+use request::lists::samples;
 
 // What a call returned: its number, the count of an instant change, and the voice's head.
 pub struct Made {
@@ -37,7 +36,7 @@ fn plain(a: Answer) -> Made
 }
 
 // Opens a voice in place of the one that was kept, also where Open refuses.
-pub fn opened(line: &mut [i32; 2112], l: Line) -> Made
+pub fn opened(line: &mut [i32; 2112], l: Request) -> Made
     ensures { λ r. ⌜ Valid (r .head) (now (line .exit)) ⌝ }
 {
     let o = voice::open::open(l.a, l.b, l.c, l.d, l.e);
@@ -53,24 +52,40 @@ pub fn opened(line: &mut [i32; 2112], l: Line) -> Made
 }
 
 // A block over the first samples of the input and of the output.
-fn blocked(
+fn over(
     line: &mut [i32; 2112],
     head: Head,
-    input: &[i32],
+    input: &[i32; 4096],
     samples: usize,
     output: &mut [i32],
     places: usize,
-) -> Made
-    requires { ⌜ Valid head (now line)
-        × (samples ≤ length (now input))
-        × (places ≤ length (now output)) ⌝ }
+) -> Answer
+    requires { ⌜ Valid head (now line) × (samples ≤ 4096) × (places ≤ length (now output)) ⌝ }
     ensures { λ r. ⌜ Valid (r .head) (now (line .exit)) ⌝ }
 {
-    plain(block::block(line, head, &input[..samples], &mut output[..places]))
+    let x: &[i32] = input;
+    block::block(line, head, &x[..samples], &mut output[..places])
+}
+
+// A block over the samples that a line lists from a place on.
+pub fn blocked(
+    line: &mut [i32; 2112],
+    head: Head,
+    s: &[u8],
+    list: usize,
+    output: &mut [i32; 16384],
+    places: usize,
+) -> Answer
+    requires { ⌜ Valid head (now line) × (list ≤ length (now s)) × (places ≤ 16384) ⌝ }
+    ensures { λ r. ⌜ Valid (r .head) (now (line .exit)) ⌝ }
+{
+    let mut input = [0i32; 4096];
+    let r = samples(&s[list..], &mut input);
+    over(line, head, &input, r.count, output, places)
 }
 
 // The calls that neither read nor write the line; on a line that asks for none the voice is as it was.
-fn set(head: Head, l: Line) -> Answer
+fn set(head: Head, l: Request) -> Answer
     requires { ⌜ Fit head ⌝ }
     ensures { λ r. ⌜ ((k : List ℤ) → Valid head k → Valid (r .head) k) ⌝ }
 {
@@ -90,7 +105,7 @@ fn set(head: Head, l: Line) -> Answer
 }
 
 // An instant change.
-fn instant(line: &[i32; 2112], head: Head, l: Line) -> Made
+fn instant(line: &[i32; 2112], head: Head, l: Request) -> Made
     requires { ⌜ Valid head (now line) ⌝ }
     ensures { λ r. ⌜ Valid (r .head) (now (line .entry)) ⌝ }
 {
@@ -104,22 +119,13 @@ fn instant(line: &[i32; 2112], head: Head, l: Line) -> Made
     }
 }
 
-// The call that a line asks for.
-pub fn call(
-    line: &mut [i32; 2112],
-    head: Head,
-    l: Line,
-    input: &[i32; 4096],
-    output: &mut [i32; 16384],
-) -> Made
-    requires { ⌜ Valid head (now line) × Within l ⌝ }
+// The call that a line asks for, where it lends nothing.
+pub fn call(line: &mut [i32; 2112], head: Head, l: Request) -> Made
+    requires { ⌜ Valid head (now line) ⌝ }
     ensures { λ r. ⌜ Valid (r .head) (now (line .exit)) ⌝ }
 {
     if l.kind == OPEN {
         return opened(line, l);
-    }
-    if l.kind == BLOCK {
-        return blocked(line, head, input, l.samples, output, l.places);
     }
     if l.kind == INSTANT {
         return instant(line, head, l);

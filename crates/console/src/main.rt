@@ -1,28 +1,25 @@
 // The console: reads a text from standard input and answers each of its lines by one line, by calls on one voice.
 // A text of more than 1,048,576 bytes is answered up to the line in which it passes that, and it is said so.
 ghost use mathlib.Core.Path.{_≡_};
+ghost use Prim.Native.Nat.{_+_, _-_, _≤_};
 ghost use lib.ListN.{length};
+ghost use Rattle.parts.specs.Valid.{Valid};
 use libc::STDIN_FILENO;
 
-mod answer;
-mod answers;
 mod calls;
-mod kinds;
-mod lists;
-mod parse;
-mod print;
 mod shown;
+mod start;
 mod turn;
 
 use calls::opened;
-use kinds::EMPTY;
-use parse::plain;
-use print::Out;
+use parts::Head;
 use print::bytes;
 use print::flush;
 use print::number;
-use text::words::before;
+use request::kinds::EMPTY;
+use request::plain;
 use turn::answered;
+use words::before;
 
 // Room for the text and one byte more.
 fn text_room() -> [u8; 1048577]
@@ -31,69 +28,75 @@ fn text_room() -> [u8; 1048577]
     [0; 1048577]
 }
 
-// Room for the bytes of a line, which take three places of the text each.
-fn bytes_room() -> [u8; 349526] {
-    [0; 349526]
-}
-
 // Says that the text was not read to its end.
-fn more(buffer: &mut [u8; 4096], out: Out, index: u64) -> Out {
-    let a = bytes(buffer, out, b"a text of more than 1048576 bytes: line");
+fn more(buffer: &mut [u8; 4096], at: usize, index: u64) -> usize {
+    let a = bytes(buffer, at, b"a text of more than 1048576 bytes: line");
     let b = number(buffer, a, index);
     bytes(buffer, b, b" and all after it are not answered\n")
 }
 
-// A line of e bytes is cut: nothing is left after it, and the text is longer than may be.
-fn cut(e: usize, left: usize, size: usize) -> bool {
+// Writes what is left, where a text of size bytes was answered up to a line.
+fn finish(buffer: &mut [u8; 4096], at: usize, index: u64, size: usize) {
+    let mut a = at;
+    if 1_048_576 < size {
+        a = more(buffer, at, index);
+    }
+    flush(buffer, a);
+}
+
+// Nothing more is to be answered: standard output took no more, or the line of e bytes is cut, since
+// nothing is left after it and the text is longer than may be.
+fn over(at: usize, e: usize, left: usize, size: usize) -> bool {
+    if 4_096 < at {
+        return true;
+    }
     if e == left {
         return 1_048_576 < size;
     }
     false
 }
 
+// What follows a line of e bytes and the byte that ends it.
+fn rest<'a>(t: &'a [u8], e: usize) -> &'a [u8]
+    requires { ⌜ e ≤ length (now t) ⌝ }
+    ensures { λ r. ⌜ length (now r) ≡ length (now (t .entry)) - (e + 1) ⌝ }
+{
+    if e == t.len() {
+        return &t[e..];
+    }
+    &t[e + 1..]
+}
+
 // Answers the lines of a text. The last is left where the text is cut in it.
-fn console(s: &[u8]) {
-    let mut line = [0i32; 2112];
-    let mut input = [0i32; 4096];
-    let mut given = bytes_room();
-    let mut output = [0i32; 16384];
-    let mut buffer = [0u8; 4096];
-    let mut out = Out { at: 0, open: true };
-    let first = opened(&mut line, plain(EMPTY));
-    let mut head = first.head;
+fn lines(s: &[u8], line: &mut [i32; 2112], first: Head, buffer: &mut [u8; 4096])
+    requires { ⌜ Valid first (now line) ⌝ }
+{
+    let mut head = first;
+    let mut at = 0;
     let mut t = s;
     let mut index = 1;
     while 0 < t.len() {
         let e = before(t, b'\n');
-        if cut(e, t.len(), s.len()) {
+        if over(at, e, t.len(), s.len()) {
             break;
         }
-        let r = answered(
-            &mut line,
-            head,
-            &mut buffer,
-            out,
-            &t[..e],
-            index,
-            &mut input,
-            &mut given,
-            &mut output,
-        );
+        let r = answered(line, head, buffer, at, &t[..e], index);
         head = r.head;
-        out = r.out;
-        if !out.open {
-            return;
-        }
-        if e == t.len() {
-            break;
-        }
-        t = &t[e + 1..];
+        at = r.at;
+        let u = rest(t, e);
+        t = u;
         index = index + 1;
     }
-    if 1_048_576 < s.len() {
-        out = more(&mut buffer, out, index);
-    }
-    flush(&buffer, out);
+    finish(buffer, at, index, s.len());
+}
+
+// Answers the lines of a text. Before any `open` the voice is the one that a refused Open returns.
+fn console(s: &[u8]) {
+    let mut line = [0i32; 2112];
+    let mut buffer = [0u8; 4096];
+    let first = opened(&mut line, plain(EMPTY));
+    let head = first.head;
+    lines(s, &mut line, head, &mut buffer);
 }
 
 fn main() {

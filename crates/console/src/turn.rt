@@ -1,79 +1,141 @@
 // One line of the text: read, called and answered.
-// What a line lends is made ready before the call.
+// What a line lends is made for its call.
+ghost use lib.ListN.{length};
 ghost use Rattle.parts.specs.Valid.{Valid};
-ghost use Rattle.console.specs.Within.{Within};
-use crate::answer::answer;
+ghost use Rattle.request.specs.Within.{Within};
+use crate::calls::blocked;
 use crate::calls::call;
-use crate::parse::Line;
-use crate::parse::parse;
-use crate::print::Out;
+use crate::shown::past;
+use crate::shown::state;
+use crate::start::returned;
+use crate::start::start;
+use answers::asked;
 use parts::Head;
+use print::bytes;
+use print::samples;
+use print::short;
+use request::Request;
+use request::kinds::BLOCK;
+use request::kinds::EMPTY;
+use request::kinds::LINE;
+use request::kinds::STATE;
+use request::parse;
+use words::before;
 
-// What is left after a line: the voice's head, and what is still to be written.
+// What is left after a line: the voice's head, and the place in the buffer.
 pub struct Turn {
     pub head: Head,
-    pub out: Out,
+    pub at: usize,
 }
 
-// Makes the first places of an output 77.
-fn fill(output: &mut [i32; 16384], places: usize) {
-    let y: &mut [i32] = output;
-    let mut i = 0;
-    while i < y.len() {
-        if i == places {
-            return;
-        }
-        y[i] = 77;
-        i = i + 1;
-    }
-}
-
-// Reads a line, and makes the samples that it lends 77.
-fn ready(
-    s: &[u8],
-    input: &mut [i32; 4096],
-    given: &mut [u8; 349526],
-    output: &mut [i32; 16384],
-) -> Line
-    ensures { λ r. ⌜ Within r ⌝ }
-{
-    let l = parse(s, input, given);
-    fill(output, l.places);
-    l
-}
-
-// Reads a line, makes its call and answers it.
-pub fn answered(
+// A call that lends nothing.
+fn called(
     line: &mut [i32; 2112],
     head: Head,
     buffer: &mut [u8; 4096],
-    out: Out,
-    s: &[u8],
-    index: u64,
-    input: &mut [i32; 4096],
-    given: &mut [u8; 349526],
-    output: &mut [i32; 16384],
+    at: usize,
+    l: Request,
 ) -> Turn
     requires { ⌜ Valid head (now line) ⌝ }
     ensures { λ r. ⌜ Valid (r .head) (now (line .exit)) ⌝ }
 {
-    let l = ready(s, input, given, output);
-    let c = call(line, head, l, input, output);
+    let c = call(line, head, l);
     let h = c.head;
     Turn {
         head: h,
-        out: answer(
-            line,
-            h,
-            buffer,
-            out,
-            s,
-            index,
-            l,
-            c.refusal,
-            c.count,
-            given,
-            output,
-        ),
+        at: returned(buffer, at, l.kind, c.refusal, c.count),
+    }
+}
+
+// A block, whose output holds 77 before the call.
+fn rendered(
+    line: &mut [i32; 2112],
+    head: Head,
+    buffer: &mut [u8; 4096],
+    at: usize,
+    s: &[u8],
+    l: Request,
+) -> Turn
+    requires { ⌜ Valid head (now line) × Within (length (now s)) l ⌝ }
+    ensures { λ r. ⌜ Valid (r .head) (now (line .exit)) ⌝ }
+{
+    let mut output = [77i32; 16384];
+    let c = blocked(line, head, s, l.list, &mut output, l.places);
+    let h = c.head;
+    let a = short(buffer, at, c.refusal);
+    Turn {
+        head: h,
+        at: samples(buffer, a, &output, l.places),
+    }
+}
+
+// The answer to a line that leaves the voice as it is.
+fn told(
+    line: &[i32; 2112],
+    head: Head,
+    buffer: &mut [u8; 4096],
+    at: usize,
+    s: &[u8],
+    l: Request,
+) -> usize
+    requires { ⌜ Valid head (now line) × Within (length (now s)) l ⌝ }
+{
+    if l.kind == STATE {
+        return state(buffer, at, head);
+    }
+    if l.kind == LINE {
+        return past(buffer, at, line, head.at, l.places);
+    }
+    asked(buffer, at, s, l)
+}
+
+// Makes the call of a line that is not empty, and answers it.
+fn turned(
+    line: &mut [i32; 2112],
+    head: Head,
+    buffer: &mut [u8; 4096],
+    at: usize,
+    s: &[u8],
+    l: Request,
+) -> Turn
+    requires { ⌜ Valid head (now line) × Within (length (now s)) l ⌝ }
+    ensures { λ r. ⌜ Valid (r .head) (now (line .exit)) ⌝ }
+{
+    if l.kind < BLOCK {
+        return called(line, head, buffer, at, l);
+    }
+    if l.kind == BLOCK {
+        return rendered(line, head, buffer, at, s, l);
+    }
+    Turn {
+        head: head,
+        at: told(line, head, buffer, at, s, l),
+    }
+}
+
+// Reads a line up to a comment, makes its call and answers it.
+pub fn answered(
+    line: &mut [i32; 2112],
+    head: Head,
+    buffer: &mut [u8; 4096],
+    at: usize,
+    s: &[u8],
+    index: u64,
+) -> Turn
+    requires { ⌜ Valid head (now line) ⌝ }
+    ensures { λ r. ⌜ Valid (r .head) (now (line .exit)) ⌝ }
+{
+    let n = before(s, b'#');
+    let t = &s[..n];
+    let l = parse(t);
+    if l.kind == EMPTY {
+        return Turn { head: head, at: at };
+    }
+    let a = start(buffer, at, t, index, l.kind);
+    let r = turned(line, head, buffer, a, t, l);
+    let h = r.head;
+    Turn {
+        head: h,
+        at: bytes(buffer, r.at, b"\n"),
     }
 }

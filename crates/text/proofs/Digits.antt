@@ -11,7 +11,7 @@ use borrow.Author.Tests.{ltb-false, leb-true, le-leb, lt-leb}
 use lib.Dec.{ltb, leb}
 use lib.ListN.{length, drop, getD, drop-of-length-le}
 use lib.Seq.{drop-cons}
-use Rattle.text.specs.declared.read.Number.{Number}
+use Rattle.text.specs.declared.Number.{Number}
 use Rattle.text.specs.Numbers.{digit, digits, decimal, isNumber, numberOf}
 use Rattle.text.proofs.Flags.{first, second, rest}
 

@@ -1,5 +1,4 @@
 pub mod Flags
 pub mod Digits
 pub mod Hex
-pub mod Places
 pub mod Signs

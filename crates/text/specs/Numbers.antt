@@ -5,9 +5,9 @@ use mathlib.Core.List.{List, [], _∷_}
 use Prim.Native.Nat.{ℕ, suc, _+_, _*_, _-_, _^_}
 use lib.Dec.{eqb, ltb, leb}
 use lib.IntN.{ℤ, pos, negℤ}
-use Rattle.text.specs.declared.read.Number.{Number}
-use Rattle.text.specs.declared.read.Sample.{Sample}
-use Rattle.text.specs.declared.read.Byte.{Byte}
+use Rattle.text.specs.declared.Number.{Number}
+use Rattle.text.specs.declared.Sample.{Sample}
+use Rattle.text.specs.declared.byte.Byte.{Byte}
 
 -- `0` to `9`
 abbrev pub digit : ℕ → Bool

@@ -13,17 +13,11 @@ opened-requires c κs = search needs
 returns : tie.Need-returns
 returns c = search needs
 
-blocked-requires : tie.Need-blocked-requires
-blocked-requires c κs = search needs
-
-returns-2 : tie.Need-returns-2
-returns-2 c = search needs
-
 instant-requires : tie.Need-instant-requires
 instant-requires c κs = search needs
 
-returns-3 : tie.Need-returns-3
-returns-3 c = search needs
+returns-2 : tie.Need-returns-2
+returns-2 c = search needs
 
 set-requires : tie.Need-set-requires
 set-requires c κs = search needs
@@ -31,11 +25,11 @@ set-requires c κs = search needs
 plain-requires : tie.Need-plain-requires
 plain-requires c κs = search needs
 
-returns-4 : tie.Need-returns-4
-returns-4 c =
-    let s = c .before .before .before .before .before .before .before .before in
+returns-3 : tie.Need-returns-3
+returns-3 c =
+    let s = c .before .before .before .before .before .before in
     subst (λ (h : Head). Valid h (s .args .line .now)) (sym (c .plain .ensures))
-    (c .before .set .ensures (s .args .line .now) (s .pre .0))
+    (c .before .set .ensures (s .args .line .now) (s .pre))
 
 pub call-spec : {M : Type 1} → statement M
 call-spec =
@@ -43,10 +37,8 @@ call-spec =
     (tie.spec
     opened-requires
     returns
-    blocked-requires
-    returns-2
     instant-requires
-    returns-3
+    returns-2
     set-requires
     plain-requires
-    returns-4)
+    returns-3)

@@ -1,0 +1,85 @@
+// What a program prints: gathered in a buffer, which goes to standard output when little room is left in it.
+// A place is how many bytes the buffer holds; one past 4,096 says that standard output took no more.
+use integer::Value;
+use libc::STDOUT_FILENO;
+
+// Writes what the buffer holds.
+pub fn flush(buffer: &[u8; 4096], at: usize) -> usize {
+    let s: &[u8] = buffer;
+    if s.len() < at {
+        return at;
+    }
+    if io::write_all(STDOUT_FILENO, &s[..at]) {
+        return 0;
+    }
+    4_097
+}
+
+// Makes room for 64 bytes at least.
+fn room(buffer: &[u8; 4096], at: usize) -> usize {
+    if at <= 4_032 {
+        return at;
+    }
+    flush(buffer, at)
+}
+
+// A text of at most 64 bytes.
+pub fn bytes(buffer: &mut [u8; 4096], at: usize, s: &[u8]) -> usize {
+    let a = room(buffer, at);
+    write::bytes(buffer, a, s)
+}
+
+// A number, behind a blank.
+pub fn number(buffer: &mut [u8; 4096], at: usize, n: u64) -> usize {
+    let a = bytes(buffer, at, b" ");
+    write::number(buffer, a, n)
+}
+
+// A number of 32 bits, behind a blank.
+pub fn short(buffer: &mut [u8; 4096], at: usize, n: u32) -> usize {
+    number(buffer, at, n as u64)
+}
+
+// Two and three of them.
+pub fn pair(buffer: &mut [u8; 4096], at: usize, m: u32, n: u32) -> usize {
+    let a = short(buffer, at, m);
+    short(buffer, a, n)
+}
+
+pub fn triple(buffer: &mut [u8; 4096], at: usize, l: u32, m: u32, n: u32) -> usize {
+    let a = short(buffer, at, l);
+    pair(buffer, a, m, n)
+}
+
+// A number with a sign, behind a blank.
+pub fn signed(buffer: &mut [u8; 4096], at: usize, x: Value) -> usize {
+    let a = bytes(buffer, at, b" ");
+    write::signed(buffer, a, x)
+}
+
+// A number with a sign, on a line.
+pub fn line(buffer: &mut [u8; 4096], at: usize, x: Value) -> usize {
+    let a = room(buffer, at);
+    let b = write::signed(buffer, a, x);
+    write::bytes(buffer, b, b"\n")
+}
+
+// A number of 32 bits with a sign, behind a blank.
+pub fn short_signed(buffer: &mut [u8; 4096], at: usize, x: i32) -> usize {
+    signed(buffer, at, Value { n: x as i64 })
+}
+
+// The first samples of an output, as many as count.
+pub fn samples(buffer: &mut [u8; 4096], at: usize, output: &[i32; 16384], count: usize) -> usize {
+    let s: &[i32] = output;
+    let mut a = at;
+    let mut i = 0;
+    while i < s.len() {
+        if i == count {
+            return a;
+        }
+        a = signed(buffer, a, samples::read(s, i));
+        i = i + 1;
+    }
+    a
+}

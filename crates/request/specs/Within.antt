@@ -1,0 +1,8 @@
+-- A request's counts: the samples that it lends are at most 16,384, and its list starts within the line's n bytes.
+-- Definitions alone. Assumes nothing.
+use Prim.Native.Nat.{ℕ, _≤_}
+use Rattle.request.specs.declared.Request.{Request}
+
+pub record Within (n : ℕ) (r : Request) : Type 0 where
+  pub places : r .places ≤ 16384
+  pub list : r .list ≤ n
