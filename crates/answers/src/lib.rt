@@ -20,24 +20,32 @@ use request::lists::bytes;
 use request::lists::bytes_room;
 use score::Played;
 
-fn coefficients(buffer: &mut [u8; 4096], at: usize, l: Request) -> usize {
+fn coefficients(buffer: &mut [u8; 4096], at: usize, l: Request) -> usize
+    ensures { λ r. ⌜ r ≤ 4097 ⌝ }
+{
     let r = thiran::coefficients(l.a, l.b);
     let a = short(buffer, at, r.refusal);
     let b = short_signed(buffer, a, r.a1);
     short_signed(buffer, b, r.a2)
 }
 
-fn length(buffer: &mut [u8; 4096], at: usize, l: Request) -> usize {
+fn length(buffer: &mut [u8; 4096], at: usize, l: Request) -> usize
+    ensures { λ r. ⌜ r ≤ 4097 ⌝ }
+{
     let r = allpass::effective_length(l.a, l.b, l.c);
     pair(buffer, at, r.refusal, r.count)
 }
 
-fn note(buffer: &mut [u8; 4096], at: usize, l: Request) -> usize {
+fn note(buffer: &mut [u8; 4096], at: usize, l: Request) -> usize
+    ensures { λ r. ⌜ r ≤ 4097 ⌝ }
+{
     let r = pitch::note(l.a, l.b, l.c);
     triple(buffer, at, r.refusal, r.length, r.delay)
 }
 
-fn draw(buffer: &mut [u8; 4096], at: usize, l: Request) -> usize {
+fn draw(buffer: &mut [u8; 4096], at: usize, l: Request) -> usize
+    ensures { λ r. ⌜ r ≤ 4097 ⌝ }
+{
     let r = noise::draw(l.a);
     let a = short_signed(buffer, at, r.value);
     short(buffer, a, r.state)
@@ -66,6 +74,7 @@ fn taken(given: &[u8; 349526], count: usize, n: &mut [u32; 9]) -> usize
 
 fn record(buffer: &mut [u8; 4096], at: usize, s: &[u8], list: usize) -> usize
     requires { ⌜ list ≤ length (now s) ⌝ }
+    ensures { λ r. ⌜ r ≤ 4097 ⌝ }
 {
     let mut given = bytes_room();
     let r = bytes(&s[list..], &mut given);
@@ -94,6 +103,7 @@ fn performed(s: &[u8], list: usize, output: &mut [i32; 16384], places: usize) ->
 
 fn run(buffer: &mut [u8; 4096], at: usize, s: &[u8], list: usize, places: usize) -> usize
     requires { ⌜ (list ≤ length (now s)) × (places ≤ 16384) ⌝ }
+    ensures { λ r. ⌜ r ≤ 4097 ⌝ }
 {
     let mut output = [77i32; 16384];
     let r = performed(s, list, &mut output, places);
@@ -106,6 +116,7 @@ fn run(buffer: &mut [u8; 4096], at: usize, s: &[u8], list: usize, places: usize)
 // What a line that asks for no voice is answered by; a line that is wrong asks for nothing.
 pub fn asked(buffer: &mut [u8; 4096], at: usize, s: &[u8], l: Request) -> usize
     requires { ⌜ Within (length (now s)) l ⌝ }
+    ensures { λ r. ⌜ (at ≤ 4097 → r ≤ 4097) ⌝ }
 {
     let kind = l.kind;
     match kind {

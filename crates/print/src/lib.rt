@@ -1,13 +1,16 @@
 // What a program prints: gathered in a buffer, which goes to standard output when little room is left in it.
-// A place is how many bytes the buffer holds; one past 4,096 says that standard output took no more.
+// A place is how many bytes the buffer holds; 4,097 says that standard output took no more.
+ghost use Prim.Native.Nat.{_≤_};
 use integer::Value;
 use libc::STDOUT_FILENO;
 
 // Writes what the buffer holds.
-pub fn flush(buffer: &[u8; 4096], at: usize) -> usize {
+pub fn flush(buffer: &[u8; 4096], at: usize) -> usize
+    ensures { λ r. ⌜ r ≤ 4097 ⌝ }
+{
     let s: &[u8] = buffer;
     if s.len() < at {
-        return at;
+        return 4_097;
     }
     if io::write_all(STDOUT_FILENO, &s[..at]) {
         return 0;
@@ -16,7 +19,9 @@ pub fn flush(buffer: &[u8; 4096], at: usize) -> usize {
 }
 
 // Makes room for 64 bytes at least.
-fn room(buffer: &[u8; 4096], at: usize) -> usize {
+fn room(buffer: &[u8; 4096], at: usize) -> usize
+    ensures { λ r. ⌜ r ≤ 4097 ⌝ }
+{
     if at <= 4_032 {
         return at;
     }
@@ -24,53 +29,71 @@ fn room(buffer: &[u8; 4096], at: usize) -> usize {
 }
 
 // A text of at most 64 bytes.
-pub fn bytes(buffer: &mut [u8; 4096], at: usize, s: &[u8]) -> usize {
+pub fn bytes(buffer: &mut [u8; 4096], at: usize, s: &[u8]) -> usize
+    ensures { λ r. ⌜ r ≤ 4097 ⌝ }
+{
     let a = room(buffer, at);
     write::bytes(buffer, a, s)
 }
 
 // A number, behind a blank.
-pub fn number(buffer: &mut [u8; 4096], at: usize, n: u64) -> usize {
+pub fn number(buffer: &mut [u8; 4096], at: usize, n: u64) -> usize
+    ensures { λ r. ⌜ r ≤ 4097 ⌝ }
+{
     let a = bytes(buffer, at, b" ");
     write::number(buffer, a, n)
 }
 
 // A number of 32 bits, behind a blank.
-pub fn short(buffer: &mut [u8; 4096], at: usize, n: u32) -> usize {
+pub fn short(buffer: &mut [u8; 4096], at: usize, n: u32) -> usize
+    ensures { λ r. ⌜ r ≤ 4097 ⌝ }
+{
     number(buffer, at, n as u64)
 }
 
 // Two and three of them.
-pub fn pair(buffer: &mut [u8; 4096], at: usize, m: u32, n: u32) -> usize {
+pub fn pair(buffer: &mut [u8; 4096], at: usize, m: u32, n: u32) -> usize
+    ensures { λ r. ⌜ r ≤ 4097 ⌝ }
+{
     let a = short(buffer, at, m);
     short(buffer, a, n)
 }
 
-pub fn triple(buffer: &mut [u8; 4096], at: usize, l: u32, m: u32, n: u32) -> usize {
+pub fn triple(buffer: &mut [u8; 4096], at: usize, l: u32, m: u32, n: u32) -> usize
+    ensures { λ r. ⌜ r ≤ 4097 ⌝ }
+{
     let a = short(buffer, at, l);
     pair(buffer, a, m, n)
 }
 
 // A number with a sign, behind a blank.
-pub fn signed(buffer: &mut [u8; 4096], at: usize, x: Value) -> usize {
+pub fn signed(buffer: &mut [u8; 4096], at: usize, x: Value) -> usize
+    ensures { λ r. ⌜ r ≤ 4097 ⌝ }
+{
     let a = bytes(buffer, at, b" ");
     write::signed(buffer, a, x)
 }
 
 // A number with a sign, on a line.
-pub fn line(buffer: &mut [u8; 4096], at: usize, x: Value) -> usize {
+pub fn line(buffer: &mut [u8; 4096], at: usize, x: Value) -> usize
+    ensures { λ r. ⌜ r ≤ 4097 ⌝ }
+{
     let a = room(buffer, at);
     let b = write::signed(buffer, a, x);
     write::bytes(buffer, b, b"\n")
 }
 
 // A number of 32 bits with a sign, behind a blank.
-pub fn short_signed(buffer: &mut [u8; 4096], at: usize, x: i32) -> usize {
+pub fn short_signed(buffer: &mut [u8; 4096], at: usize, x: i32) -> usize
+    ensures { λ r. ⌜ r ≤ 4097 ⌝ }
+{
     signed(buffer, at, Value { n: x as i64 })
 }
 
 // The first samples of an output, as many as count.
-pub fn samples(buffer: &mut [u8; 4096], at: usize, output: &[i32; 16384], count: usize) -> usize {
+pub fn samples(buffer: &mut [u8; 4096], at: usize, output: &[i32; 16384], count: usize) -> usize
+    ensures { λ r. ⌜ (at ≤ 4097 → r ≤ 4097) ⌝ }
+{
     let s: &[i32] = output;
     let mut a = at;
     let mut i = 0;

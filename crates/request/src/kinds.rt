@@ -37,7 +37,9 @@ pub const LINE: u32 = 14;
 pub const ERROR: u32 = 15;
 
 // The place of a word in a list of words, from 1; 15 where it is none of the first 14.
-fn place(w: &[u8], names: &[u8]) -> u32 {
+fn place(w: &[u8], names: &[u8]) -> u32
+    ensures { λ r. ⌜ r ≤ 15 ⌝ }
+{
     let mut t = names;
     let mut k = 1;
     while k < ERROR {
@@ -54,7 +56,9 @@ fn place(w: &[u8], names: &[u8]) -> u32 {
 }
 
 // The kind of line that a word names.
-pub fn named(w: &[u8]) -> u32 {
+pub fn named(w: &[u8]) -> u32
+    ensures { λ r. ⌜ r ≤ 15 ⌝ }
+{
     place(
         w,
         b"open loss pluck announce instant block coefficients length note draw record run state line",

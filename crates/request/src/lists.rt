@@ -1,7 +1,9 @@
 // Lists of words: numbers, samples and bytes, read into lent arrays.
 // Contracts say how far the text is read, or how much of the array is filled.
+ghost use mathlib.Core.Path.{_≡_};
+ghost use mathlib.Core.Bool.{true};
 ghost use Prim.Native.Nat.{_≤_};
-ghost use lib.ListN.{length};
+ghost use lib.ListN.{length, replicate};
 use crate::kinds::BLOCK;
 use crate::kinds::RECORD;
 use crate::kinds::RUN;
@@ -109,7 +111,9 @@ fn sampled(s: &[u8]) -> bool {
 }
 
 // Room for the bytes of a line, which take three places of the text each.
-pub fn bytes_room() -> [u8; 349526] {
+pub fn bytes_room() -> [u8; 349526]
+    ensures { λ r. ⌜ r ≡ replicate 349526 0 ⌝ }
+{
     [0; 349526]
 }
 
@@ -121,7 +125,9 @@ fn byted(s: &[u8]) -> bool {
 }
 
 // What follows the numbers is what the kind has there, where the numbers themselves are right.
-pub fn listed(kind: u32, s: &[u8], numbers: bool, places: bool) -> bool {
+pub fn listed(kind: u32, s: &[u8], numbers: bool, places: bool) -> bool
+    ensures { λ r. ⌜ (r ≡ true → (numbers ≡ true) × (places ≡ true)) ⌝ }
+{
     if numbers {
         if places {
             return match kind {
