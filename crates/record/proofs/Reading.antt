@@ -2,11 +2,10 @@
 -- Assumes nothing.
 use mathlib.Core.Path.{_≡_, refl, sym, ap, _∙_}
 use mathlib.Core.List.{List, [], _∷_}
-use Prim.Native.Nat.{ℕ, _-_, _≤_, _<_}
+use Prim.Native.Nat.{ℕ, _≤_, _<_}
 use native.Mathlib.Omega.{arith}
 use borrow.Author.Tests.{eq-eqb, ne-eqb}
-use lib.ListN.{length, take, drop, replicate, length-drop}
-use lib.Seq.{take-all}
+use lib.ListN.{length, drop, replicate}
 use Rattle.refusal.specs.Returned.{Returned}
 use Rattle.refusal.proofs.Returned.{here, past, kept-is, is-met, returned}
 use Rattle.record.specs.Record.{bit, before, bytes, word, mapOf, present, field, illFormed, whole, formed}
@@ -63,7 +62,3 @@ pub read-as : (s : List ℕ) {m w l d g a n z : ℕ} → m ≡ mapOf s → w ≡
     → g ≡ field s 3 → a ≡ field s 4 → n ≡ field s 5 → z ≡ field s 6
     → 0 ∷ m ∷ w ∷ l ∷ d ∷ g ∷ a ∷ n ∷ z ∷ [] ≡ 0 ∷ read s
 read-as s e0 e1 e2 e3 e4 e5 e6 e7 = cc
-
--- a part up to the end
-pub part-to-end : (n : ℕ) (s : List ℕ) → take (length s - n) (drop n s) ≡ drop n s
-part-to-end n s = take-all (length s - n) (drop n s) (omega (arith, length-drop n s))

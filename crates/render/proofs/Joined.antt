@@ -1,17 +1,24 @@
 -- Parts of a buffer that are rendered one after the other, and what they are together.
 -- Assumes nothing.
 use mathlib.Core.Path.{_≡_, refl, sym, ap, ap₂, subst, _∙_}
-use mathlib.Core.List.{List, [], _∷_, _++_, append-assoc}
-use Prim.Native.Nat.{ℕ, zero, suc, _+_, _≤_, _<_}
+use mathlib.Core.List.{List, [], _∷_, _++_, append-assoc, append-nil}
+use Prim.Native.Nat.{ℕ, zero, suc, _+_, _-_, _≤_, _<_}
 use native.Mathlib.Omega.{arith}
 use lib.IntN.{ℤ}
 use lib.ListN.{length, take, drop, length-append, length-drop, take-append-drop}
-use lib.Seq.{length-take-le, take-append-add, drop-append-add, take-append-seam, drop-append-seam}
+use borrow.Rule.Slice.PartMut.{putMid, post-is}
+use lib.Seq.{drop-length, length-take-le, take-append-add, drop-append-add, take-append-seam, drop-append-seam}
 use Rattle.integer.specs.Rounding.{M}
 use Rattle.samples.specs.Samples.{loudest}
 use Rattle.rule.specs.State.{State, step, sounds, blockAfter, blockOut}
 use Rattle.loops.specs.Rendered.{Rendered}
 use Rattle.loops.proofs.Rendered.{all-after, all-out}
+
+-- a part that was lent to the end, back in its place
+pub back : (a : ℕ) (l m : List ℤ) → a ≤ length l → putMid a (length l - a) l m ≡ take a l ++ m
+back a l m h =
+    ap (λ (z : List ℤ). take a l ++ (m ++ z)) (post-is a (length l) l h ∙ drop-length l)
+    ∙ ap (λ (z : List ℤ). take a l ++ z) (append-nil m)
 
 -- ---- inputs one after the other
 after-append : (v : State) (xs ys : List ℤ) → blockAfter v (xs ++ ys) ≡ blockAfter (blockAfter v xs) ys

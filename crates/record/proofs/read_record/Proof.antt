@@ -4,9 +4,10 @@ use mathlib.Core.Path.{_≡_, sym, ap, _∙_}
 use Prim.Native.Nat.{ℕ}
 use native.Mathlib.Omega.{arith}
 use lib.ListN.{drop}
-use Rattle.record.proofs.Reading.{cut-short, bad-map, good-map, part-to-end}
+use Rattle.record.proofs.Reading.{cut-short, bad-map, good-map}
 use Rattle.record.proofs.Reading.{refused-fields, refused-rest, taken-fields, taken-rest}
 use borrow.Author.Needs.{needs}
+use borrow.Rule.Slice.PartAt.{part-to-end}
 use Rattle.record.proofs.read_record.Statement.{statement}
 use Rattle.record.proofs.read_record.Tie as tie
 
@@ -75,7 +76,7 @@ returns-4 c =
     let s = b .before .before .before .before .args .s .now in
     let e = good-map s (omega (arith, i .before .if2 .left, b .bytes .ensures)) (sym (i .ill-formed .ensures) ∙ t .if3 .left) in (
       c .before .fill .ensures ∙ taken-fields s e,
-      part-to-end (b .bytes .result) s ∙ ap (λ (n : ℕ). drop n s) (b .bytes .ensures) ∙ taken-rest s e,
+      part-to-end s (b .bytes .result) ∙ ap (λ (n : ℕ). drop n s) (b .bytes .ensures) ∙ taken-rest s e,
     )
 
 pub read-record-spec : {M : Type 1} → statement M

@@ -1,21 +1,20 @@
 -- `render::render` meets its contract: the invariant is `Rendered`, with a voice that stays valid.
 -- Assumes nothing.
 use mathlib.Core.Path.{_≡_, sym, ap, subst, _∙_}
-use mathlib.Core.List.{List, _++_, append-nil}
+use mathlib.Core.List.{List, _++_}
 use Prim.Native.Nat.{ℕ, _+_, _-_, _≤_, _<_}
 use native.Mathlib.Omega.{arith}
 use borrow.Author.Needs.{needs}
 use borrow.Rule.Slice.PartAt.{part-to-end}
-use borrow.Rule.Slice.PartMut.{putMid, post-is}
+use borrow.Rule.Slice.PartMut.{putMid}
 use lib.IntN.{ℤ}
 use lib.ListN.{length, take, drop, length-drop}
-use lib.Seq.{drop-length}
 use Rattle.rule.specs.State.{State}
 use Rattle.parts.specs.Struct.{stateOf}
 use Rattle.parts.specs.Valid.{Valid}
 use Rattle.loops.specs.Rendered.{Rendered}
 use Rattle.loops.proofs.Rendered.{begun, all-after, all-out}
-use Rattle.render.proofs.Joined.{rendered-then}
+use Rattle.render.proofs.Joined.{back, rendered-then}
 use Rattle.render.proofs.render.Statement.{statement}
 use Rattle.render.proofs.render.Tie as tie
 
@@ -45,12 +44,6 @@ stretch-requires : tie.Need-stretch-requires Inv-loop μ-loop
 stretch-requires c κs =
     let l = c .before .before .before .loop in
     (l .inv .1, rw (part-to-end (l .buffer) (l .i)) (l .inv .0 .quiet))
-
--- a part that was lent to the end, back in its place
-back : (a : ℕ) (l m : List ℤ) → a ≤ length l → putMid a (length l - a) l m ≡ take a l ++ m
-back a l m h =
-    ap (λ (z : List ℤ). take a l ++ (m ++ z)) (post-is a (length l) l h ∙ drop-length l)
-    ∙ ap (λ (z : List ℤ). take a l ++ z) (append-nil m)
 
 -- a pass of the loop, once a stretch is rendered
 module _ (c : tie.After-stretch Inv-loop μ-loop) where

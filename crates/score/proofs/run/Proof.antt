@@ -10,7 +10,7 @@ use Rattle.rule.specs.Calls.{Opening, openLimits}
 use Rattle.rule.specs.State.{State, fresh}
 use Rattle.score.specs.Run.{opening, headerLimits}
 use Rattle.score.specs.Played.{PlaysAll}
-use Rattle.record.proofs.Reading.{part-to-end}
+use borrow.Rule.Slice.PartAt.{part-to-end}
 use Rattle.score.proofs.Header.{header-cut, header-whole, opening-is, run-refused, run-played}
 use borrow.Author.Needs.{needs}
 use Rattle.score.proofs.run.Statement.{statement}
@@ -93,7 +93,7 @@ returns-3 c =
     let r = p .play .result in
     let k = p .play .last .1 .1 .1 .0 in
     run-played s out r k (sym (number-is a) ∙ e .if2 .left)
-    (subst (λ (t : List ℕ). PlaysAll t (fresh (opening s)) out r k) (part-to-end 8 s)
+    (subst (λ (t : List ℕ). PlaysAll t (fresh (opening s)) out r k) (part-to-end s 8)
     (subst (λ (v : State). PlaysAll (take (length s - 8) (drop 8 s)) v out r k) (a .«open» .ensures .state ∙ ap (λ (o : Opening). fresh o) (asked a))
     (p .play .ensures)))
 

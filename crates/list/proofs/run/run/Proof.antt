@@ -2,15 +2,9 @@
 -- Assumes nothing.
 mod Counts
 mod Loop
-use mathlib.Core.Path.{_≡_, ap, _∙_}
-use mathlib.Core.List.{List, _++_, append-nil}
-use Prim.Native.Nat.{ℕ, _-_, _≤_}
 use native.Mathlib.Omega.{arith}
 use borrow.Rule.Slice.PartAt.{part-to-end}
-use borrow.Rule.Slice.PartMut.{putMid, post-is}
-use lib.IntN.{ℤ}
-use lib.ListN.{length, take}
-use lib.Seq.{drop-length}
+use Rattle.render.proofs.Joined.{back}
 use Rattle.parts.specs.Struct.{stateOf}
 use Rattle.list.proofs.Running.{begun, out-long, nums-long}
 use Rattle.list.proofs.Running.{all-out, all-written, all-numbers}
@@ -36,12 +30,6 @@ loop-holds c =
           (stateOf (s .head) (s .line .now)) (b .pre .1),
       b .pre .0,
     )
-
--- a part that was lent to the end, back in its place
-back : (a : ℕ) (l m : List ℤ) → a ≤ length l → putMid a (length l - a) l m ≡ take a l ++ m
-back a l m h =
-    ap (λ (z : List ℤ). take a l ++ (m ++ z)) (post-is a (length l) l h ∙ drop-length l)
-    ∙ ap (λ (z : List ℤ). take a l ++ z) (append-nil m)
 
 loop-again : tie.Need-loop-again Inv-loop μ-loop
 loop-again c =
