@@ -5,8 +5,8 @@ use mathlib.Core.List.{List}
 use Prim.Native.Nat.{ℕ, _+_, _-_, _≤_, _<_}
 use native.Mathlib.Omega.{arith}
 use borrow.Author.Needs.{needs}
-use lib.IntN.{ℤ, natAbs}
-use lib.ListN.{length}
+use lib.IntN.{ℤ, pos, natAbs}
+use lib.ListN.{length, getD}
 use Rattle.integer.specs.Rounding.{M}
 use Rattle.rule.specs.State.{State, step}
 use Rattle.parts.specs.Struct.{stateOf}
@@ -29,6 +29,14 @@ loop-holds c = (begun (c .args .buffer .now) (stateOf (c .args .h) (c .args .lin
 read-requires : tie.Need-read-requires Inv-loop μ-loop
 read-requires c κs = search needs
 
+-- the sample that a pass of the loop reads
+module _ (c : tie.After-read Inv-loop μ-loop) where
+  abbrev reads : tie.At-loop Inv-loop μ-loop
+  reads = c .before .before .before
+
+  is-read : c .read .result .n ≡ getD (reads .loop .buffer) (reads .loop .i) (pos 0)
+  is-read = c .read .ensures
+
 step-requires : tie.Need-step-requires Inv-loop μ-loop
 step-requires c κs =
     let l = c .before .before .before .before .loop in
@@ -36,7 +44,7 @@ step-requires c κs =
     let r =
     sample (s .buffer .now) (stateOf (s .h) (s .line .now)) (l .buffer) (stateOf (l .head) (l .line)) (l .i) (l .inv .0)
     (c .before .before .before .loop-test .taken) in
-    (l .inv .1, subst (λ (z : ℤ). natAbs z ≤ M) (sym (c .before .read .ensures)) r)
+    (l .inv .1, subst (λ (z : ℤ). natAbs z ≤ M) (sym (is-read (c .before))) r)
 
 write-requires : tie.Need-write-requires Inv-loop μ-loop
 write-requires c κs = (c .before .before .before .before .before .before .loop-test .taken, c .before .before .step .ensures .small)
@@ -64,7 +72,7 @@ module _ (c : tie.After-write Inv-loop μ-loop) where
       let e = stepped .step .ensures in
       let u = stateOf (l .head) (l .line) in
       let w = stateOf (stepped .step .result .head) (stepped .step .last .0) in
-      let n = e .state ∙ ap (λ (x : ℤ). step u x) (stepped .before .before .read .ensures) in (
+      let n = e .state ∙ ap (λ (x : ℤ). step u x) (is-read (stepped .before .before)) in (
         subst (λ (k : List ℤ). Rendered xs begins k w (l .i + 1)) (sym (c .write .ensures))
             (rendered xs begins (l .buffer) u (l .i) (l .inv .0) (stepped .before .before .before .before .loop-test .taken) w
             (stepped .step .result .y .n) n (e .y)),
