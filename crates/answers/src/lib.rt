@@ -1,11 +1,10 @@
-// The routines that take no voice: each is called, and what it returned is printed behind the line's name.
-// The record's nine numbers and a run's output are lent with 77 at each place.
+// The routines that neither take nor open a voice: each is called, and what it returned is printed behind the
+// line's name. The record's nine numbers are lent with 77 at each place.
 ghost use Prim.Native.Nat.{_≤_};
 ghost use lib.ListN.{length};
 ghost use Rattle.request.specs.Within.{Within};
 use print::number;
 use print::pair;
-use print::samples;
 use print::short;
 use print::short_signed;
 use print::triple;
@@ -15,10 +14,8 @@ use request::kinds::DRAW;
 use request::kinds::LENGTH;
 use request::kinds::NOTE;
 use request::kinds::RECORD;
-use request::kinds::RUN;
 use request::lists::bytes;
 use request::lists::bytes_room;
-use score::Played;
 
 fn coefficients(buffer: &mut [u8; 4096], at: usize, l: Request) -> usize
     ensures { λ r. ⌜ r ≤ 4097 ⌝ }
@@ -84,36 +81,7 @@ fn record(buffer: &mut [u8; 4096], at: usize, s: &[u8], list: usize) -> usize
     number(buffer, a, left as u64)
 }
 
-// The run of the first bytes, over the first samples of the output.
-fn played(given: &[u8; 349526], count: usize, output: &mut [i32], places: usize) -> Played
-    requires { ⌜ (count ≤ 349526) × (places ≤ length (now output)) ⌝ }
-{
-    let s: &[u8] = given;
-    score::run(&s[..count], &mut output[..places])
-}
-
-// The run of the bytes that a line lists from a place on.
-fn performed(s: &[u8], list: usize, output: &mut [i32; 16384], places: usize) -> Played
-    requires { ⌜ (list ≤ length (now s)) × (places ≤ 16384) ⌝ }
-{
-    let mut given = bytes_room();
-    let r = bytes(&s[list..], &mut given);
-    played(&given, r.count, output, places)
-}
-
-fn run(buffer: &mut [u8; 4096], at: usize, s: &[u8], list: usize, places: usize) -> usize
-    requires { ⌜ (list ≤ length (now s)) × (places ≤ 16384) ⌝ }
-    ensures { λ r. ⌜ r ≤ 4097 ⌝ }
-{
-    let mut output = [77i32; 16384];
-    let r = performed(s, list, &mut output, places);
-    let a = short(buffer, at, r.refusal);
-    let b = number(buffer, a, r.place as u64);
-    let c = number(buffer, b, r.written as u64);
-    samples(buffer, c, &output, places)
-}
-
-// What a line that asks for no voice is answered by; a line that is wrong asks for nothing.
+// What a line that asks for one of them is answered by; a line that is wrong asks for nothing.
 pub fn asked(buffer: &mut [u8; 4096], at: usize, s: &[u8], l: Request) -> usize
     requires { ⌜ Within (length (now s)) l ⌝ }
     ensures { λ r. ⌜ (at ≤ 4097 → r ≤ 4097) ⌝ }
@@ -125,7 +93,6 @@ pub fn asked(buffer: &mut [u8; 4096], at: usize, s: &[u8], l: Request) -> usize
         NOTE => note(buffer, at, l),
         DRAW => draw(buffer, at, l),
         RECORD => record(buffer, at, s, l.list),
-        RUN => run(buffer, at, s, l.list, l.places),
         _ => at,
     }
 }

@@ -7,6 +7,7 @@ ghost use Rattle.parts.specs.Valid.{Valid};
 use libc::STDIN_FILENO;
 
 mod calls;
+mod run;
 mod shown;
 mod start;
 mod turn;

@@ -5,6 +5,7 @@ ghost use Rattle.parts.specs.Valid.{Valid};
 ghost use Rattle.request.specs.Within.{Within};
 use crate::calls::blocked;
 use crate::calls::call;
+use crate::run::run;
 use crate::shown::past;
 use crate::shown::state;
 use crate::start::returned;
@@ -18,6 +19,7 @@ use request::Request;
 use request::kinds::BLOCK;
 use request::kinds::EMPTY;
 use request::kinds::LINE;
+use request::kinds::RUN;
 use request::kinds::STATE;
 use request::parse;
 use words::before;
@@ -85,6 +87,9 @@ fn told(
     }
     if l.kind == LINE {
         return past(buffer, at, line, head.at, l.places);
+    }
+    if l.kind == RUN {
+        return run(buffer, at, s, l.list, l.places);
     }
     asked(buffer, at, s, l)
 }

@@ -1,11 +1,11 @@
--- `answers::played` meets its contract: the score and the output are parts of what is lent.
+-- `console::run::played` meets its contract: the score and the output are parts of what is lent.
 -- Assumes nothing.
 use mathlib.Core.Path.{sym}
 use native.Mathlib.Omega.{arith}
 use borrow.Author.Needs.{needs}
 use lib.Seq.{length-take-le}
-use Rattle.answers.proofs.played.Statement.{statement}
-use Rattle.answers.proofs.played.Tie as tie
+use Rattle.console.proofs.run.played.Statement.{statement}
+use Rattle.console.proofs.run.played.Tie as tie
 
 slice-aggregate-run : tie.Need-slice-aggregate-run
 slice-aggregate-run c =
