@@ -1,15 +1,15 @@
 -- Laws of specs/Rounding.antt. `floor u m` is the q with m q ≤ u < m q + m.
 -- Assumes nothing.
 use mathlib.Core.Path.{_≡_, refl}
-use Prim.Native.Nat.{ℕ, suc, _+_, _*_, _/_, _≤_, _<_, min}
+use Prim.Native.Nat.{ℕ, zero, suc, _+_, _*_, _/_, _≤_, _<_, min}
 use native.Mathlib.Omega.{arith}
-use native.Mathlib.Nat.{div-add-mod', mod-lt, mul-le-mul-right}
+use native.Mathlib.Nat.{div-add-mod', mod-lt, mul-le-mul-right, le-div-iff-mul-le}
 use native.Mathlib.Decide.{decLt}
 use lib.IntN.{ℤ, pos, negsuc, natAbs, _+ℤ_, _-ℤ_, _*ℤ_}
 use lib.Signed.{_≤ℤ_, _<ℤ_}
 use Rattle.integer.specs.Parts.{up, dn}
 use Rattle.integer.proofs.View.{+v, -v, *v, negv, absv, near, onev, Zs}
-use Rattle.integer.proofs.Ring.{times}
+use Rattle.integer.proofs.Ring.{times, abs-*}
 use Rattle.integer.specs.Rounding.{floor, Nearest, nearest, R, M, clip}
 
 -- ---- floor: its two parts, m q ≤ u and u < m q + m
@@ -87,6 +87,23 @@ nearest-same p s q r h k e =
     = omega (arith, ur, vq, times r (*v (pos 2) p), times q (*v (pos 2) s)) in
     floor-same u v (2 * q) (2 * r) (omega arith) (omega arith)
     (omega (Zs, *v u (pos (2 * r)), *v v (pos (2 * q))))
+
+-- 2 q n ≤ 2 P + q holds of a lower q too
+lowered : (n P q Q : ℕ) → Q ≤ q → 2 * q * n ≤ 2 * P + q → n * (2 * Q) ≤ 2 * P + Q
+lowered zero P q Q h k = omega arith
+lowered (suc n) P q Q h k = omega (arith, mul-le-mul-right n h)
+
+-- a fraction with a top no larger in size and a bottom no lower has a nearest number no larger in size
+pub nearest-abs : (p : ℤ) (P q Q : ℕ) → 0 < Q → natAbs p ≤ P → Q ≤ q
+    → natAbs (nearest p q) ≤ (2 * P + Q) / (2 * Q)
+nearest-abs p P q Q g h l =
+    let A = nearest p q in
+    let n = nearest-is p q (omega arith) in
+    let z = pos (2 * q) *ℤ A in
+    let v = +v (pos 2 *ℤ p) (pos q) in
+    let b = near z {B = 2 * P + q} (omega (Zs, v, *v (pos 2) p, +v z (pos (2 * q)), absv p)) in
+    le-div-iff-mul-le {k = 2 * Q} {x = natAbs A} (omega arith) .1
+    (lowered (natAbs A) P q Q l (rw abs-* at b))
 
 -- ---- R
 pub Rv : (u : ℤ)

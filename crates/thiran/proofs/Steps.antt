@@ -76,7 +76,7 @@ module _ (N d : ℕ) where
       joined : (x y z w : ℤ) → x *ℤ ((y *ℤ z) *ℤ w) ≡ ((x *ℤ y) *ℤ z) *ℤ w
       joined x y z w = simp sorts
 
-  bottom-above : (k : ℕ) → 0 < part N d k .bottom
+  pub bottom-above : (k : ℕ) → 0 < part N d k .bottom
   bottom-above zero = lit< tt
   bottom-above (suc k) =
       let h : 0 < suc k * (d + 4096 * suc k) = omega arith in
