@@ -87,7 +87,8 @@ pub fn eliminate(order: u32, c: Coefficients, v: State, f: Value) -> State
 // The output, where s is the next state.
 fn output(order: u32, c: Coefficients, v: State, s: State) -> Value
     requires { ⌜ Fed order c s (pos 0) × Within (2 * M) (held order v) ⌝ }
-    ensures { λ r. ⌜ r .n ≡ Clip (final (pos 0) (held order v) +ℤ R (dot (reverse (taps order c)) (held order s))) ⌝ }
+    ensures { λ r. ⌜ r .n
+        ≡ Clip (final (pos 0) (held order v) +ℤ R (dot (reverse (taps order c)) (held order s))) ⌝ }
 {
     let r = weighed(turned(order, c), s);
     let x = oldest(order, v);

@@ -1,5 +1,5 @@
 // The allpass filter of order 1 or 2, its eliminator, and the effective length of its response.
-// Contracts cite the filter of order N over lists (specs/Allpass.antt) by the structs' lists (specs/Stored.antt).
+// Contracts cite the filter of order N over lists (specs/Allpass.antt), held in structs (specs/Stored.antt).
 pub mod filter;
 mod response;
 

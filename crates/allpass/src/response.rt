@@ -27,7 +27,8 @@ fn loud(v: State, threshold: u32) -> u32
 
 // How many of the 64 values w are above the threshold in magnitude; left is how many are still to come.
 pub fn louder(order: u32, c: Coefficients, threshold: u32) -> u32
-    requires { ⌜ (1 ≤ order) × (order ≤ orders) × (c ≡ padded (taps order c)) × (norm (taps order c) ≤ 32768) ⌝ }
+    requires { ⌜ (1 ≤ order) × (order ≤ orders) × (c ≡ padded (taps order c))
+        × (norm (taps order c) ≤ 32768) ⌝ }
     ensures { λ r. ⌜ r ≡ above threshold (response (taps order c) order) ⌝ }
 {
     let mut v = eliminate(order, c, State { v1: 0, v2: 0 }, Value { n: 1_000_000 });

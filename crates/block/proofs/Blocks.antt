@@ -1,4 +1,4 @@
--- A block's number, what a refused call leaves, and what an accepted block does, in the terms of the calls' contracts.
+-- A block's number, what a refused call leaves, and what an accepted block does, in the contracts' terms.
 -- Assumes nothing.
 use mathlib.Core.Path.{_≡_, refl, sym, ap, _∙_}
 use mathlib.Core.Bool.{Bool, true, false, cond}

@@ -12,8 +12,11 @@ use render::render;
 // A block of samples: an output for each input.
 pub fn block(line: &mut [i32; 2112], head: Head, input: &[i32], output: &mut [i32]) -> Answer
     requires { ⌜ Valid head (now line) ⌝ }
-    ensures { λ r. ⌜ On head (now (line .entry)) (Block (now (input .entry)) (length (now (output .entry)))) r (now (line .exit)) ⌝ }
-    ensures { λ r. ⌜ now (output .exit) ≡ lent head (now (line .entry)) (Block (now (input .entry)) (length (now (output .entry)))) (now (output .entry)) ⌝ }
+    ensures { λ r. ⌜ On head (now (line .entry)) (Block (now (input .entry)) (length (now (output .entry)))) r
+        (now (line .exit)) ⌝ }
+    ensures { λ r. ⌜ now (output .exit)
+        ≡ lent head (now (line .entry)) (Block (now (input .entry)) (length (now (output .entry))))
+        (now (output .entry)) ⌝ }
 {
     if input.len() != output.len() {
         return Answer {

@@ -1,4 +1,4 @@
-// The console: reads a text from standard input and answers each of its lines by one line, by calls on one voice.
+// The console: reads a text from standard input and answers each line by a line, by calls on one voice.
 // A text of more than 1,048,576 bytes is answered up to the line in which it passes that, and it is said so.
 ghost use mathlib.Core.Path.{_≡_};
 ghost use Prim.Native.Nat.{_+_, _-_, _≤_};

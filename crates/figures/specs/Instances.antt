@@ -15,8 +15,8 @@ use Rattle.rule.specs.Click.{Change, NoneBy, Figure}
 abbrev pub o : Opening
 o = record { N = 2; L = 3; d = 8192; G = 60000; Na = 2 }
 
--- for the call c of a list, a change to t, at step m: what demand 3 asks, what it says, and the two outputs that
--- it compares, y of the voice and z of the new filter
+-- for the call c of a list, a change to t, at step m: what demand 3 asks, what it says, and the two outputs
+-- that it compares, y of the voice and z of the new filter
 module _ (pre : List Call) (c : Call) (post : List Call) where
   abbrev pub list : List Call
   list = pre ++ c ∷ post

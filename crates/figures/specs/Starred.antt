@@ -1,4 +1,4 @@
--- "Those with * form the table to be proved": checked figures of document 01, as one fact about the definitions.
+-- "Those with * form the table to be proved": checked figures of document 01, one fact about the definitions.
 -- proofs/Starred.antt proves it by computation. Assumes nothing.
 use mathlib.Core.Path.{_≡_}
 use mathlib.Core.List.{List, [], _∷_}

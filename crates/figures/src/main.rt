@@ -1,4 +1,4 @@
-// Prints document 01's checked figures of coefficients, noise, notes and effective length, by the proved routines.
+// Prints document 01's checked figures of coefficients, noise, notes and effective length, by the routines.
 // That the definitions give the starred ones is one fact, specs/Starred.antt.
 use libc::STDOUT_FILENO;
 

@@ -33,8 +33,8 @@ fn set_loss(head: Head, r: &[u32; 9]) -> Answer
 // Changes L or d, where the record has one of them, to it and the other that is in force.
 fn change(line: &[i32; 2112], head: Head, r: &[u32; 9]) -> Answer
     requires { ⌜ Valid head (now line) ⌝ }
-    ensures { λ a. ⌜ Does head (now (line .entry)) (changeCalls (now (r .entry)) (stateOf head (now (line .entry)))) a
-        (now (line .entry)) ⌝ }
+    ensures { λ a. ⌜ Does head (now (line .entry))
+        (changeCalls (now (r .entry)) (stateOf head (now (line .entry)))) a (now (line .entry)) ⌝ }
 {
     let map = r[1];
     if bit(map, 2) + bit(map, 4) == 0 {
@@ -79,8 +79,8 @@ fn chosen(bit: u32, field: u32, other: u32) -> u32
 // A record but for its wait: G, then the change, then the pluck, until one is refused.
 fn act(line: &[i32; 2112], head: Head, r: &[u32; 9]) -> Answer
     requires { ⌜ Valid head (now line) ⌝ }
-    ensures { λ a. ⌜ Does head (now (line .entry)) (actCalls (now (r .entry)) (stateOf head (now (line .entry)))) a
-        (now (line .entry)) ⌝ }
+    ensures { λ a. ⌜ Does head (now (line .entry))
+        (actCalls (now (r .entry)) (stateOf head (now (line .entry)))) a (now (line .entry)) ⌝ }
 {
     let g = set_loss(head, r);
     if g.refusal != 0 {
@@ -96,10 +96,11 @@ fn act(line: &[i32; 2112], head: Head, r: &[u32; 9]) -> Answer
 // A record: its wait, over a buffer as long, and then what it sets.
 pub fn follow(line: &mut [i32; 2112], head: Head, r: &[u32; 9], buffer: &mut [i32]) -> Answer
     requires { ⌜ Valid head (now line) × (length (now buffer) ≡ value (now r) 0) ⌝ }
-    ensures { λ a. ⌜ Does head (now (line .entry)) (recordCalls (now (r .entry)) (stateOf head (now (line .entry)))) a
-        (now (line .exit)) ⌝ }
+    ensures { λ a. ⌜ Does head (now (line .entry))
+        (recordCalls (now (r .entry)) (stateOf head (now (line .entry)))) a (now (line .exit)) ⌝ }
     ensures { λ _. ⌜ now (buffer .exit)
-        ≡ puts (stateOf head (now (line .entry))) (recordCalls (now (r .entry)) (stateOf head (now (line .entry)))) ⌝ }
+        ≡ puts (stateOf head (now (line .entry)))
+        (recordCalls (now (r .entry)) (stateOf head (now (line .entry)))) ⌝ }
 {
     samples::clear(buffer);
     let h = render::render(line, head, buffer);

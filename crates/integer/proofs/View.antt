@@ -1,5 +1,5 @@
 -- Integers as differences of naturals, for `omega`, which reads ℕ alone: z is `up z` less `dn z`.
--- `+v a b`, `-v a b`, `*v a b` tell the parts of an operation's result; by `Zs` omega reads and proves facts of ℤ.
+-- `+v a b`, `-v a b`, `*v a b` tell the parts of an operation's result; by `Zs` omega reads facts of ℤ.
 -- Assumes nothing.
 use mathlib.Core.Path.{_≡_, refl, sym, ap, subst, _∙_}
 use mathlib.Core.Bool.{Bool, true, false, not, cond}

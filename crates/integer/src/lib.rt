@@ -35,8 +35,8 @@ pub fn floor_div(u: Value, m: u64) -> Value
     Value { n: q }
 }
 
-// u / 65,536 downward, as `floor_div` has it, with the divisor as a literal: the compiler makes one arithmetic
-// shift of it, and of `floor_div` at 65,536 it does not.
+// u / 65,536 downward, as `floor_div` has it, with the divisor as a literal: the compiler makes one
+// arithmetic shift of it, and of `floor_div` at 65,536 it does not.
 fn floor_q16(u: Value) -> Value
     ensures { λ r. ⌜ r .n ≡ floor (u .n) 65536 ⌝ }
 {

@@ -1,5 +1,5 @@
-// The routines for programs in other languages, by the C calling convention: include/jivaszte.h declares them.
-// Each contract cites the definition of the routine that it calls; a refusal is returned, the rest is left in what is lent.
+// The routines for programs in other languages, by the C calling convention, as include/jivaszte.h has them.
+// A contract cites the called routine's definition; a refusal is returned, the rest is left in what is lent.
 ghost use mathlib.Core.Path.{_≡_};
 ghost use Prim.Native.Nat.{_≤_};
 ghost use lib.ListN.{length, drop};
@@ -70,7 +70,8 @@ pub extern "C" fn jivaszte_draw(noise: &mut u32) -> i32
 #[no_mangle]
 pub extern "C" fn jivaszte_record(score: &[u8], fields: &mut [u32; 9]) -> usize
     ensures { λ _. ⌜ now (fields .exit) ≡ Fields (now (score .entry)) ⌝ }
-    ensures { λ r. ⌜ (r ≤ length (now (score .entry))) × (drop r (now (score .entry)) ≡ Rest (now (score .entry))) ⌝ }
+    ensures { λ r. ⌜ (r ≤ length (now (score .entry)))
+        × (drop r (now (score .entry)) ≡ Rest (now (score .entry))) ⌝ }
 {
     let rest = record::read_record(score, fields);
     score.len() - rest.len()
@@ -85,7 +86,8 @@ pub extern "C" fn jivaszte_run(
     written: &mut usize,
 ) -> u32
     ensures { λ r. ⌜ Runs (now (score .entry)) (now (output .entry))
-        (record { refusal = r; place = now (place .exit); written = now (written .exit) }) (now (output .exit)) ⌝ }
+        (record { refusal = r; place = now (place .exit); written = now (written .exit) })
+        (now (output .exit)) ⌝ }
 {
     let p = score::run(score, output);
     *place = p.place;

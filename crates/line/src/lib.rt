@@ -28,7 +28,8 @@ fn place(at: usize, k: usize) -> usize
 // Puts a sample at place at, over the oldest, and returns the place of the next.
 pub fn write(line: &mut [i32; 2112], at: usize, s: Value) -> usize
     requires { ⌜ (at < 2112) × (natAbs (s .n) ≤ M) ⌝ }
-    ensures { λ r. ⌜ (r < 2112) × (ring r (now (line .exit)) ≡ s .n ∷ take 2111 (ring at (now (line .entry)))) ⌝ }
+    ensures { λ r. ⌜ (r < 2112)
+        × (ring r (now (line .exit)) ≡ s .n ∷ take 2111 (ring at (now (line .entry)))) ⌝ }
 {
     samples::write(line, at, s);
     if at == 2_111 { 0 } else { at + 1 }

@@ -1,5 +1,5 @@
 // What is kept of a voice in a loop over its samples, and the head that it makes.
-// A filter's order is passed beside it, so that a loop that is called with a number there is compiled for that order.
+// A filter's order is passed beside it: a loop that is called with a number there is compiled for that order.
 ghost use mathlib.Core.Path.{_≡_};
 ghost use Rattle.loops.specs.Carried.{anewOf, carriedOf, dueOf};
 use allpass::State;

@@ -52,7 +52,7 @@ fn quiet(line: &mut [i32; 2112], order: u32, h: Head, buffer: &mut [i32]) -> Hea
     carried(h, anew(order, h.filter, v), last, at)
 }
 
-// Renders the buffer while a change waits; its eliminator e, which took so many samples before, reads the line too.
+// Renders the buffer while a change waits; its eliminator e, which took some samples, reads the line too.
 fn leading(
     line: &mut [i32; 2112],
     order: u32,
@@ -61,12 +61,15 @@ fn leading(
     taken: u32,
     buffer: &mut [i32],
 ) -> Beside
-    requires { ⌜ Valid h (now line) × (loudest (now buffer) ≤ M) × (taken + length (now buffer) ≤ h .advance) ⌝ }
-    requires { ⌜ (order ≡ h .filter .tuning .order) × (h .waiting ≡ Announced e taken) × (h .pluck .left ≡ 0) ⌝ }
+    requires { ⌜ Valid h (now line) × (loudest (now buffer) ≤ M)
+        × (taken + length (now buffer) ≤ h .advance) ⌝ }
+    requires { ⌜ (order ≡ h .filter .tuning .order) × (h .waiting ≡ Announced e taken)
+        × (h .pluck .left ≡ 0) ⌝ }
     ensures { λ r. ⌜ Rendered (now (buffer .entry)) (stateOf h (now (line .entry))) (now (buffer .exit))
         (stateOf (dueOf (r .head) (r .next) (taken + length (now (buffer .entry)))) (now (line .exit)))
         (length (now (buffer .entry))) ⌝ }
-    ensures { λ r. ⌜ Valid (dueOf (r .head) (r .next) (taken + length (now (buffer .entry)))) (now (line .exit)) ⌝ }
+    ensures { λ r. ⌜ Valid (dueOf (r .head) (r .next) (taken + length (now (buffer .entry))))
+        (now (line .exit)) ⌝ }
 {
     let mut v = h.filter.state;
     let mut u = e.state;
@@ -96,7 +99,8 @@ fn leading(
 
 // Renders the buffer while nothing waits, by the loop of its order.
 pub fn steady(line: &mut [i32; 2112], h: Head, buffer: &mut [i32]) -> Head
-    requires { ⌜ Valid h (now line) × (loudest (now buffer) ≤ M) × (h .waiting ≡ Idle) × (h .pluck .left ≡ 0) ⌝ }
+    requires { ⌜ Valid h (now line) × (loudest (now buffer) ≤ M) × (h .waiting ≡ Idle)
+        × (h .pluck .left ≡ 0) ⌝ }
     ensures { λ r. ⌜ Rendered (now (buffer .entry)) (stateOf h (now (line .entry))) (now (buffer .exit))
         (stateOf r (now (line .exit))) (length (now (buffer .entry))) ⌝ }
     ensures { λ r. ⌜ Valid r (now (line .exit)) ⌝ }
@@ -109,12 +113,14 @@ pub fn steady(line: &mut [i32; 2112], h: Head, buffer: &mut [i32]) -> Head
 
 // The same while a change waits, before it may be put in force.
 fn led(line: &mut [i32; 2112], h: Head, e: Filter, taken: u32, buffer: &mut [i32]) -> Beside
-    requires { ⌜ Valid h (now line) × (loudest (now buffer) ≤ M) × (taken + length (now buffer) ≤ h .advance) ⌝ }
+    requires { ⌜ Valid h (now line) × (loudest (now buffer) ≤ M)
+        × (taken + length (now buffer) ≤ h .advance) ⌝ }
     requires { ⌜ (h .waiting ≡ Announced e taken) × (h .pluck .left ≡ 0) ⌝ }
     ensures { λ r. ⌜ Rendered (now (buffer .entry)) (stateOf h (now (line .entry))) (now (buffer .exit))
         (stateOf (dueOf (r .head) (r .next) (taken + length (now (buffer .entry)))) (now (line .exit)))
         (length (now (buffer .entry))) ⌝ }
-    ensures { λ r. ⌜ Valid (dueOf (r .head) (r .next) (taken + length (now (buffer .entry)))) (now (line .exit)) ⌝ }
+    ensures { λ r. ⌜ Valid (dueOf (r .head) (r .next) (taken + length (now (buffer .entry))))
+        (now (line .exit)) ⌝ }
 {
     if h.filter.tuning.order == 1 {
         return leading(line, 1, h, e, taken, buffer);
@@ -124,7 +130,8 @@ fn led(line: &mut [i32; 2112], h: Head, e: Filter, taken: u32, buffer: &mut [i32
 
 // Renders the buffer while a change waits, which may take effect at its end.
 pub fn ahead(line: &mut [i32; 2112], h: Head, e: Filter, taken: u32, buffer: &mut [i32]) -> Head
-    requires { ⌜ Valid h (now line) × (loudest (now buffer) ≤ M) × (taken + length (now buffer) ≤ h .advance) ⌝ }
+    requires { ⌜ Valid h (now line) × (loudest (now buffer) ≤ M)
+        × (taken + length (now buffer) ≤ h .advance) ⌝ }
     requires { ⌜ (h .waiting ≡ Announced e taken) × (h .pluck .left ≡ 0) ⌝ }
     ensures { λ r. ⌜ Rendered (now (buffer .entry)) (stateOf h (now (line .entry))) (now (buffer .exit))
         (stateOf r (now (line .exit))) (length (now (buffer .entry))) ⌝ }

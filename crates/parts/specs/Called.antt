@@ -1,4 +1,4 @@
--- What each call on a voice, and each part of one, returns and leaves, in the sample rule's terms; refused too.
+-- What each call on a voice, refused or not, and each part of one returns and leaves, in the rule's terms.
 -- Definitions alone. Assumes nothing.
 use mathlib.Core.Path.{_≡_}
 use mathlib.Core.Bool.{cond}

@@ -1,4 +1,4 @@
--- The voice that the code's structs hold, in the terms of the sample rule: one function, `stateOf`, of a head and its line.
+-- The voice that the code's structs hold, in the sample rule's terms: `stateOf`, of a head and its line.
 -- Where the ring of the line begins cannot be seen through it. Definitions alone. Assumes nothing.
 use mathlib.Core.List.{List}
 use mathlib.Core.Option.{Option, none, some}

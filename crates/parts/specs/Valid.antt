@@ -1,4 +1,4 @@
--- The invariant of a voice, which Open gives and every call hands on, refused ones too: the only thing that a call requires.
+-- The invariant of a voice, which Open gives and every call hands on, refused or not: all that one requires.
 -- Definitions alone. Assumes nothing.
 use mathlib.Core.Path.{_≡_}
 use mathlib.Core.List.{List}
@@ -19,7 +19,8 @@ use Rattle.parts.specs.declared.Pluck.{Pluck}
 use Rattle.parts.specs.declared.Head.{Head}
 use Rattle.parts.specs.Struct.{filterOf}
 
--- a filter: its tuning within the limits, its coefficients those of its tuning, its state within 2M and 0 past the order
+-- a filter: its tuning within the limits, its coefficients those of its tuning, its state within 2M and
+-- 0 past the order
 pub record Tuned (f : Filter) : Type 0 where
   pub takes : Takes (f .tuning .order) (f .tuning .delay)
   pub short : 1 ≤ f .tuning .length

@@ -1,5 +1,5 @@
-// The parts of a voice as the code holds them, what a call returns, and what the calls share: the tests of a tuning,
-// the filter of one at rest, and a head with another filter. specs/Struct.antt says which voice a head and a line are.
+// The parts of a voice as the code holds them, what a call returns, and what the calls share.
+// specs/Struct.antt says which voice a head and a line are.
 ghost use mathlib.Core.Path.{_≡_};
 ghost use mathlib.Core.List.{[], _∷_};
 ghost use Prim.Native.Nat.{_≤_};

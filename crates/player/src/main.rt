@@ -1,5 +1,5 @@
-// Plays a score: reads its bytes from standard input, the first 32,768 of them, and prints each sample that the run wrote
-// on a line, then `end`, number, place, samples.
+// Plays a score: reads its bytes from standard input, the first 32,768 of them, and prints each sample that
+// the run wrote on a line, then `end`, number, place, samples.
 use libc::STDIN_FILENO;
 use print::bytes;
 use print::flush;

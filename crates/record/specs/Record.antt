@@ -12,7 +12,7 @@ abbrev pub bit : ℕ → ℕ → ℕ
 bit map k = map / 2 ^ k % 2
 
 -- "Each record is a bit map byte, then only the fields whose bit stands, lowest bit first, each 16 bits":
--- how many bytes of the record stand before field k; field 7 is none, so that before it stands the whole record
+-- how many bytes of the record stand before field k; field 7 is none, so before it stands the whole record
 abbrev pub before : ℕ → ℕ → ℕ
 before map zero = 1
 before map (suc k) = before map k + 2 * bit map k

@@ -1,4 +1,4 @@
-// Rendering in place: each sample of a buffer is an input, and becomes the output, for blocks and the waits of a score.
+// Rendering in place, for blocks and the waits of a score: each sample is an input, and becomes the output.
 // A buffer is rendered in stretches, each by the loop that fits what waits and what sounds.
 ghost use mathlib.Core.Path.{_≡_};
 ghost use Prim.Native.Nat.{_≤_, _<_};
@@ -92,7 +92,8 @@ fn stretch(line: &mut [i32; 2112], h: Head, buffer: &mut [i32]) -> Part
 // Each sample of the buffer is an input, and becomes the output.
 pub fn render(line: &mut [i32; 2112], h: Head, buffer: &mut [i32]) -> Head
     requires { ⌜ Valid h (now line) × (loudest (now buffer) ≤ M) ⌝ }
-    ensures { λ r. ⌜ stateOf r (now (line .exit)) ≡ blockAfter (stateOf h (now (line .entry))) (now (buffer .entry)) ⌝ }
+    ensures { λ r. ⌜ stateOf r (now (line .exit))
+        ≡ blockAfter (stateOf h (now (line .entry))) (now (buffer .entry)) ⌝ }
     ensures { λ r. ⌜ now (buffer .exit) ≡ blockOut (stateOf h (now (line .entry))) (now (buffer .entry)) ⌝ }
     ensures { λ r. ⌜ Valid r (now (line .exit)) ⌝ }
 {

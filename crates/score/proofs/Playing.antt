@@ -19,8 +19,9 @@ use Rattle.score.specs.Run.{allRecords}
 use Rattle.score.specs.Played.{over, Plays}
 use Rattle.record.proofs.Reading.{record-returned}
 
--- the records s on the voice u with the output out: what is left is the bytes t on the voice v, from index k on
-pub record Playing (s : List ℕ) (u : State) (out : List ℤ) (v : State) (t : List ℕ) (k done : ℕ) (now : List ℤ) : Type 0 where
+-- the records s on the voice u with the output out: left are the bytes t on the voice v, from index k on
+pub record Playing (s : List ℕ) (u : State) (out : List ℤ) (v : State) (t : List ℕ) (k done : ℕ)
+    (now : List ℤ) : Type 0 where
   pub most : ℕ
   pub enough : length t ≤ most
   pub calls : List Call

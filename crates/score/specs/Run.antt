@@ -34,7 +34,8 @@ playLimits s room = recordLimits s ++ fits (fields s) room ∷ []
 
 -- what comes of a record that has the number n and makes the calls cs, and of the records after it
 unfoldable pub played : ℕ → State → List Call → ℕ → Outcome → Outcome
-played n v cs k o = cond (eqb n 0) (cond (eqb (result v cs) 0) (joined cs o) (ends (result v cs) k cs)) (ends n k [])
+played n v cs k o =
+    cond (eqb n 0) (cond (eqb (result v cs) 0) (joined cs o) (ends (result v cs) k cs)) (ends n k [])
 
 -- the records in the bytes s, of which the first has index k, on the voice v; each takes a byte at least,
 -- so that there are at most as many as bytes

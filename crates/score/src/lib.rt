@@ -26,7 +26,7 @@ fn as_length(wait: u32) -> usize
     wait as usize
 }
 
-// What a record is refused by before any of its samples, with room for so many: its own number, then 16, else 0.
+// What a record is refused by before any of its samples, with so much room: its own number, then 16, else 0.
 fn refused(r: &[u32; 9], room: usize) -> u32
     ensures { λ n. ⌜ Tests (getD (now (r .entry)) 0 0) (fits (now (r .entry)) room) n ⌝ }
 {
@@ -43,8 +43,8 @@ fn refused(r: &[u32; 9], room: usize) -> u32
 // The records of a score, each on the voice that the one before it left.
 fn play(line: &mut [i32; 2112], head: Head, records: &[u8], output: &mut [i32]) -> Played
     requires { ⌜ Valid head (now line) ⌝ }
-    ensures { λ r. ⌜ PlaysAll (now (records .entry)) (stateOf head (now (line .entry))) (now (output .entry)) r
-        (now (output .exit)) ⌝ }
+    ensures { λ r. ⌜ PlaysAll (now (records .entry)) (stateOf head (now (line .entry)))
+        (now (output .entry)) r (now (output .exit)) ⌝ }
 {
     let mut h = head;
     let mut t = records;

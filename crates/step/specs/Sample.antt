@@ -64,7 +64,7 @@ pub record Settles (h : Head) (w : Waiting) (g : ℤ) (r : Head) : Type 0 where
   pub fit : Fit r
   pub place : r .at ≡ h .at
 
--- the loop on the line l, which it leaves as k: the filter f takes s(n − L), and s(n) is the line's newest sample
+-- the loop on the line l, which it leaves as k: the filter f takes s(n − L), and s(n) is the newest sample
 pub record Circulates (f : Filter) (G : ℕ) (last : ℤ) (at : ℕ) (l : List ℤ) (x noise : ℤ)
     (r : Circulated) (k : List ℤ) : Type 0 where
   pub hears : Hears f (back (ring at l) (f .tuning .length)) (record { y = r .y; filter = r .filter })

@@ -163,7 +163,7 @@ fn settled(h: Head, w: Waiting, g: Value) -> Head
     }
 }
 
-// One sample of the loop, with input x and a noise sample: the filter takes s(n − L), and s(n) goes into the line.
+// One sample of the loop, with input x and some noise: the filter takes s(n − L), s(n) goes into the line.
 pub fn circulate(
     line: &mut [i32; 2112],
     f: Filter,
@@ -173,9 +173,11 @@ pub fn circulate(
     x: Value,
     noise: Value,
 ) -> Circulated
-    requires { ⌜ Tuned f × (loss ≤ 65535) × (natAbs (last .n) ≤ M) × (at < 2112) × Within M (ring at (now line)) ⌝ }
+    requires { ⌜ Tuned f × (loss ≤ 65535) × (natAbs (last .n) ≤ M) × (at < 2112)
+        × Within M (ring at (now line)) ⌝ }
     requires { ⌜ (natAbs (x .n) ≤ M) × (natAbs (noise .n) ≤ 2 ^ 23) ⌝ }
-    ensures { λ r. ⌜ Circulates f loss (last .n) at (now (line .entry)) (x .n) (noise .n) r (now (line .exit)) ⌝ }
+    ensures { λ r. ⌜ Circulates f loss (last .n) at (now (line .entry)) (x .n) (noise .n) r
+        (now (line .exit)) ⌝ }
 {
     let a = line::read(line, at, f.tuning.length as usize);
     let o = hear(f, a);

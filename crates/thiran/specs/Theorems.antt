@@ -1,4 +1,4 @@
--- What document 01 says of the coefficients, at each delay that an order takes; proofs/Theorems.antt proves it.
+-- What document 01 says of the coefficients at each delay that an order takes; proofs/Theorems.antt has it.
 -- Statements alone. Assumes nothing.
 use mathlib.Core.Path.{_≡_}
 use Prim.Native.Nat.{ℕ, _≤_}

@@ -11,7 +11,8 @@ use integer::Value;
 // Copies s to the place at.
 fn copy(s: &[u8], buffer: &mut [u8], at: usize)
     requires { ⌜ at + length (now s) ≤ length (now buffer) ⌝ }
-    ensures { λ _. ⌜ now (buffer .exit) ≡ paste (now (buffer .entry)) at (now (s .entry)) (length (now (s .entry))) ⌝ }
+    ensures { λ _. ⌜ now (buffer .exit)
+        ≡ paste (now (buffer .entry)) at (now (s .entry)) (length (now (s .entry))) ⌝ }
 {
     let mut i = 0;
     while i < s.len() {

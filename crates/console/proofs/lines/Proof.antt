@@ -1,4 +1,4 @@
--- `console::lines` meets its contract: the voice that is kept is valid, and the lines are no more than the bytes.
+-- `console::lines` meets its contract: the voice that is kept is valid, the lines no more than the bytes.
 -- Assumes nothing.
 use mathlib.Core.Path.{sym}
 use Prim.Native.Nat.{_+_, _≤_}

@@ -1,4 +1,4 @@
--- `loops::leading` meets its contract: the invariant is `Rendered`, of the head that is carried on with its change.
+-- `loops::leading` meets its contract: the invariant is `Rendered`, of the head carried on with its change.
 -- Assumes nothing.
 use mathlib.Core.Path.{_≡_, sym, ap, subst, _∙_}
 use mathlib.Core.List.{List}

@@ -1,4 +1,4 @@
--- `text::read_number` meets its contract: the digits from i on, after the number n, spell what the word spells.
+-- `text::read_number` meets its contract: the digits from i on, after the number n, spell the word's number.
 -- Assumes nothing.
 use mathlib.Core.Path.{_≡_, refl, sym, _∙_}
 use mathlib.Core.Bool.{true, false}

@@ -1,4 +1,4 @@
--- `allpass::filter::output` meets its contract: the turned coefficients are as small, and the sum is within 3M.
+-- `allpass::filter::output` meets its contract: the turned coefficients are as small, the sum within 3M.
 -- Assumes nothing.
 use mathlib.Core.Path.{_≡_, ap, _∙_}
 use mathlib.Core.List.{List, [], reverse}
