@@ -52,9 +52,14 @@ module _ (v : Voice) (xs : List ℤ) (n : ℕ) where
 module _ (h : Head) (l : List ℤ) (c : Call) where
   pub refused-on : {k : ℕ} → Valid h l → k ≡ number (voiceOf h) c → (k ≡ 0 → ⊥)
       → On h l c (record { refusal = k; head = h }) l
-  refused-on g e f = record { number = e; state = sym (call-refused (stateOf h l) c (λ z. f (e ∙ z))); valid = g }
+  refused-on g e f = record {
+    number = e;
+    state = sym (call-refused (stateOf h l) c (λ z. f (e ∙ z)));
+    valid = g;
+  }
 
-  pub refused-lent : {k : ℕ} → k ≡ number (voiceOf h) c → (k ≡ 0 → ⊥) → (before : List ℤ) → before ≡ lent h l c before
+  pub refused-lent : {k : ℕ} → k ≡ number (voiceOf h) c → (k ≡ 0 → ⊥) → (before : List ℤ) → before
+      ≡ lent h l c before
   refused-lent e f before = rw (ne-eqb (number (voiceOf h) c) 0 (λ z. f (e ∙ z)))
 
 -- ---- an accepted block
@@ -62,8 +67,13 @@ module _ (h : Head) (l xs : List ℤ) (n : ℕ) (e : 0 ≡ number (voiceOf h) (b
   pub block-on : (r : Head) (k : List ℤ) → Valid r k → stateOf r k ≡ blockAfter (stateOf h l) xs
       → On h l (block xs n) (record { refusal = 0; head = r }) k
   unfolding done
-  block-on r k g i = record { number = e; state = i ∙ sym (call-accepted (stateOf h l) (block xs n) (sym e)); valid = g }
+  block-on r k g i = record {
+    number = e;
+    state = i ∙ sym (call-accepted (stateOf h l) (block xs n) (sym e));
+    valid = g;
+  }
 
-  pub block-lent : (out before : List ℤ) → out ≡ blockOut (stateOf h l) xs → out ≡ lent h l (block xs n) before
+  pub block-lent : (out before : List ℤ) → out ≡ blockOut (stateOf h l) xs → out
+      ≡ lent h l (block xs n) before
   unfolding put done
   block-lent out before i = rw (eq-eqb (number (voiceOf h) (block xs n)) 0 (sym e)) i

@@ -21,10 +21,16 @@ use Rattle.follow.proofs.Sequence.{from-append, result-past, result-one
 pub does-none : {h : Head} {l : List ℤ} → Valid h l → Does h l [] (record { refusal = 0; head = h }) l
 does-none g = record { number = refl; state = refl; valid = g }
 
-pub does-one : (h : Head) (l : List ℤ) {c : Call} {a : Answer} {k : List ℤ} → On h l c a k → Does h l (c ∷ []) a k
-does-one h l {c} e = record { number = e .number ∙ result-one (stateOf h l) c; state = e .state; valid = e .valid }
+pub does-one : (h : Head) (l : List ℤ) {c : Call} {a : Answer} {k : List ℤ} → On h l c a k
+    → Does h l (c ∷ []) a k
+does-one h l {c} e = record {
+  number = e .number ∙ result-one (stateOf h l) c;
+  state = e .state;
+  valid = e .valid;
+}
 
-module _ (f g : State → List Call) (h : Head) (l : List ℤ) (a : Answer) (k : List ℤ) (d : Does h l (f (stateOf h l)) a k) where
+module _ (f g : State → List Call) (h : Head) (l : List ℤ) (a : Answer) (k : List ℤ)
+    (d : Does h l (f (stateOf h l)) a k) where
   v : State
   v = stateOf h l
 
@@ -38,7 +44,8 @@ module _ (f g : State → List Call) (h : Head) (l : List ℤ) (a : Answer) (k :
         valid = d .valid;
       }
 
-  module _ (z : a .refusal ≡ 0) (b : Answer) (m : List ℤ) (e : Does (a .head) k (g (stateOf (a .head) k)) b m) where
+  module _ (z : a .refusal ≡ 0) (b : Answer) (m : List ℤ)
+      (e : Does (a .head) k (g (stateOf (a .head) k)) b m) where
     pub does-then : Does h l (then f g (stateOf h l)) b m
     unfolding v
     does-then =
@@ -46,13 +53,11 @@ module _ (f g : State → List Call) (h : Head) (l : List ℤ) (a : Answer) (k :
         let w = from v (f v) in
         let t : f v ++ g w ≡ then f g v = then-past f g v r in
         record {
-          number =
-              e .number
+          number = e .number
               ∙ ap (λ (u : State). result u (g u)) (d .state)
               ∙ sym (result-past v (f v) (g w) r)
               ∙ ap (λ (cs : List Call). result v cs) t;
-          state =
-              e .state
+          state = e .state
               ∙ ap (λ (u : State). from u (g u)) (d .state)
               ∙ sym (from-append v (f v) (g w))
               ∙ ap (λ (cs : List Call). from v cs) t;
@@ -61,7 +66,8 @@ module _ (f g : State → List Call) (h : Head) (l : List ℤ) (a : Answer) (k :
 
 -- ---- a part of a record: a call where some bits stand, else none
 module _ (h : Head) (l : List ℤ) (n : ℕ) (c : Call) where
-  pub part-none : Valid h l → n ≡ 0 → Does h l (cond (eqb n 0) [] (c ∷ [])) (record { refusal = 0; head = h }) l
+  pub part-none : Valid h l → n ≡ 0
+      → Does h l (cond (eqb n 0) [] (c ∷ [])) (record { refusal = 0; head = h }) l
   part-none g e = rw (eq-eqb n 0 e) (does-none g)
 
   pub part-one : (n ≡ 0 → ⊥) → {a : Answer} → On h l c a l → Does h l (cond (eqb n 0) [] (c ∷ [])) a l
@@ -75,5 +81,6 @@ module _ (r : List ℕ) (v : State) {L d : ℕ} (e : L ≡ lengthTo r v) (i : d 
   pub at-once : (stands r 7 ≡ 0 → ⊥) → instant L d ≡ change r v
   at-once f = rw (e, i, ne-eqb (stands r 7) 0 f)
 
-pub on-as : {h : Head} {l : List ℤ} {c b : Call} {a : Answer} {k : List ℤ} → On h l c a k → c ≡ b → On h l b a k
+pub on-as : {h : Head} {l : List ℤ} {c b : Call} {a : Answer} {k : List ℤ} → On h l c a k → c ≡ b
+    → On h l b a k
 on-as {h} {l} {a} {k} o e = subst (λ (x : Call). On h l x a k) e o

@@ -22,7 +22,8 @@ puts-append v (c ∷ cs) ds =
     ∙ sym (append-assoc (put v c) (puts (call v c) cs) (puts (from (call v c) cs) ds))
 
 -- ---- the number that ends them
-pub result-past : (v : State) (cs ds : List Call) → result v cs ≡ 0 → result v (cs ++ ds) ≡ result (from v cs) ds
+pub result-past : (v : State) (cs ds : List Call) → result v cs ≡ 0 → result v (cs ++ ds)
+    ≡ result (from v cs) ds
 result-past v [] ds e = refl
 result-past v (c ∷ cs) ds e = go (eqb (number (v .voice) c) 0) refl (result-past (call v c) cs ds) e
   where

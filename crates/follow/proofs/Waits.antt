@@ -18,7 +18,8 @@ use Rattle.parts.specs.Struct.{stateOf}
 use Rattle.parts.specs.Valid.{Valid}
 use Rattle.parts.proofs.Called.{call-accepted}
 use Rattle.block.proofs.Blocks.{plays}
-use Rattle.follow.specs.Follow.{value, stands, absent, waitCalls, lossCalls, change, changeCalls, pluckCalls}
+use Rattle.follow.specs.Follow.{value, stands, absent, waitCalls}
+use Rattle.follow.specs.Follow.{lossCalls, change, changeCalls, pluckCalls}
 use Rattle.follow.specs.Follow.{lengthTo, delayTo, result, then, actCalls, recordCalls}
 use Rattle.follow.specs.Does.{Does}
 use Rattle.follow.proofs.Sequence.{puts-append, result-one, then-past}
@@ -48,7 +49,8 @@ still-cond : (b : Bool) {cs ds : List Call} → Still cs → Still ds → Still 
 still-cond true s t = s
 still-cond false s t = t
 
-still-then : (f g : State → List Call) → ((v : State) → Still (f v)) → ((v : State) → Still (g v)) → (v : State)
+still-then : (f g : State → List Call) → ((v : State) → Still (f v)) → ((v : State) → Still (g v))
+    → (v : State)
     → Still (then f g v)
 unfolding then
 still-then f g s t v =
@@ -57,14 +59,16 @@ still-then f g s t v =
 change-still : (r : List ℕ) (v : State) → inputs (change r v) ≡ []
 change-still r v = go (absent r 7)
   where
-    go : (b : Bool) → inputs (cond b (announce (lengthTo r v) (delayTo r v)) (instant (lengthTo r v) (delayTo r v))) ≡ []
+    go : (b : Bool) → inputs (cond b (announce (lengthTo r v) (delayTo r v))
+        (instant (lengthTo r v) (delayTo r v))) ≡ []
     go true = refl
     go false = refl
 
 acts-still : (r : List ℕ) (v : State) → Still (actCalls r v)
 unfolding actCalls
 acts-still r v =
-    still-then (lossCalls r) (then (changeCalls r) (pluckCalls r)) (λ w. still-cond (absent r 3) none (more refl none))
+    still-then (lossCalls r) (then (changeCalls r) (pluckCalls r))
+    (λ w. still-cond (absent r 3) none (more refl none))
     (still-then (changeCalls r) (pluckCalls r)
     (λ w. still-cond (eqb (stands r 1 + stands r 2) 0) none (more (change-still r w) none))
     (λ w. still-cond (absent r 4) none (more refl none)))
@@ -93,10 +97,12 @@ module _ (v : State) (n : ℕ) where
 
 pub wait-taken : (r : List ℕ) (v : State) → result v (waitCalls r v) ≡ 0
 unfolding zeros
-wait-taken r v = sym (result-one v (block (replicate (value r 0) (pos 0)) (value r 0))) ∙ accepted v (value r 0)
+wait-taken r v = sym (result-one v (block (replicate (value r 0) (pos 0)) (value r 0)))
+    ∙ accepted v (value r 0)
 
 -- what a record puts out
-pub record-puts : (r : List ℕ) (v : State) → puts v (recordCalls r v) ≡ blockOut v (replicate (value r 0) (pos 0))
+pub record-puts : (r : List ℕ) (v : State) → puts v (recordCalls r v)
+    ≡ blockOut v (replicate (value r 0) (pos 0))
 unfolding recordCalls
 record-puts r v =
     let w = from v (waitCalls r v) in

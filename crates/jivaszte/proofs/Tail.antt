@@ -20,7 +20,8 @@ dropped zero s = ap (λ (m : ℕ). drop m s) (none s)
 dropped (suc n) [] = refl
 dropped (suc n) (x ∷ xs) = ap (λ (m : ℕ). drop m (x ∷ xs)) (one-more n xs) ∙ dropped n xs
 
-picked : (b : Bool) (n : ℕ) (s : List ℕ) → drop (length s - length (cond b (drop n s) s)) s ≡ cond b (drop n s) s
+picked : (b : Bool) (n : ℕ) (s : List ℕ) → drop (length s - length (cond b (drop n s) s)) s
+    ≡ cond b (drop n s) s
 picked true n s = dropped n s
 picked false n s = dropped zero s
 

@@ -40,7 +40,11 @@ as-anew {N} f {g} t k e =
     ∙ ap (λ (t : Tuning). padded (coefficients (t .order) (t .delay))) e
     ∙ sym (t .coefficients-are) in
     ap (λ (t : Tuning). record { tuning = t; coefficients = g .coefficients; state = g .state }) e
-    ∙ ap (λ (c : Coefficients). record { tuning = anewOf N f (g .state) .tuning; coefficients = c; state = g .state })
+    ∙ ap (λ (c : Coefficients). record {
+      tuning = anewOf N f (g .state) .tuning;
+      coefficients = c;
+      state = g .state;
+    })
     same
 
 pub anew-self : {N : ℕ} (f : Filter) → N ≡ f .tuning .order → anewOf N f (f .state) ≡ f
@@ -50,7 +54,8 @@ anew-self f e = rw e
 pub carried-self : {f : Filter} (h : Head) → f ≡ h .filter → h .waiting ≡ Idle
     → carriedOf h f (h .last) (h .at) ≡ h
 carried-self h e w =
-    ap (λ (f : Filter). carriedOf h f (h .last) (h .at)) e ∙ ap (λ (x : Waiting). withOf h (h .filter) x) (sym w)
+    ap (λ (f : Filter). carriedOf h f (h .last) (h .at)) e
+    ∙ ap (λ (x : Waiting). withOf h (h .filter) x) (sym w)
 
 module _ (h : Head) {f : Filter} {y : Value} {at : ℕ} {l : List ℤ} {x : ℤ} {r : Circulated} {k : List ℤ}
     (z : h .pluck .left ≡ 0) (c : Circulates f (h .loss) (y .n) at l x (pos 0) r k) where
@@ -64,7 +69,8 @@ module _ (h : Head) {f : Filter} {y : Value} {at : ℕ} {l : List ℤ} {x : ℤ}
   module _ {e n : Filter} {t : ℕ} (m : Moved e (back (ring at l) (e .tuning .length)) n)
       (v : Valid (withOf (carriedOf h f y at) f (Announced e t)) l) where
     settles : (b : Bool) → eqb (t + 1) (h .advance) ≡ b
-        → Settles (carriedOf h (r .filter) (r .y) (r .at)) (Announced e t) (back (ring at l) (e .tuning .length))
+        → Settles (carriedOf h (r .filter) (r .y) (r .at)) (Announced e t)
+        (back (ring at l) (e .tuning .length))
         (cond b (withOf (carriedOf h (r .filter) (r .y) (r .at)) n Idle)
         (withOf (carriedOf h (r .filter) (r .y) (r .at)) (r .filter) (Announced n (t + 1))))
     settles true i =
@@ -72,7 +78,8 @@ module _ (h : Head) {f : Filter} {y : Value} {at : ℕ} {l : List ℤ} {x : ℤ}
         settles-now (heard-fit v o c) (heard-waiting v o c) m (eqb→≡ (t + 1) (h .advance) i)
     settles false i =
         let o = sounds-none (v .fit .pluck) z in
-        settles-later (heard-fit v o c) (heard-waiting v o c) m (λ j. absurd (false≢true (sym i ∙ eq-eqb (t + 1) (h .advance) j)))
+        settles-later (heard-fit v o c) (heard-waiting v o c) m
+        (λ j. absurd (false≢true (sym i ∙ eq-eqb (t + 1) (h .advance) j)))
 
     pub led-steps : Steps (withOf (carriedOf h f y at) f (Announced e t)) l x
         (record { y = r .y; head = dueOf (carriedOf h (r .filter) (r .y) (r .at)) n (t + 1) }) k
@@ -87,10 +94,12 @@ due-later h e k i = rw (ne-eqb k (h .advance) (λ z. omega arith))
 
 pub due-self : {N : ℕ} {e : Filter} {t k : ℕ} (h : Head) → N ≡ h .filter .tuning .order → N ≡ e .tuning .order
     → h .waiting ≡ Announced e t → k ≡ t → t < h .advance
-    → dueOf (carriedOf h (anewOf N (h .filter) (h .filter .state)) (h .last) (h .at)) (anewOf N e (e .state)) k ≡ h
+    → dueOf (carriedOf h (anewOf N (h .filter) (h .filter .state)) (h .last) (h .at))
+    (anewOf N e (e .state)) k ≡ h
 due-self {N} {e} {t} {k} h i j w z fewer =
     let f = anewOf N (h .filter) (h .filter .state) in
-    let waits = ap (λ (n : ℕ). Announced (anewOf N e (e .state)) n) z ∙ ap (λ (e : Filter). Announced e t) (anew-self e j) in
+    let waits = ap (λ (n : ℕ). Announced (anewOf N e (e .state)) n) z
+    ∙ ap (λ (e : Filter). Announced e t) (anew-self e j) in
     due-later (carriedOf h f (h .last) (h .at)) (anewOf N e (e .state)) k (omega arith)
     ∙ ap (λ (f : Filter). withOf h f (Announced (anewOf N e (e .state)) k)) (anew-self (h .filter) i)
     ∙ ap (λ (x : Waiting). withOf h (h .filter) x) (waits ∙ sym w)

@@ -8,7 +8,8 @@ use borrow.Author.Tests.{eq-eqb, ne-eqb}
 use lib.ListN.{length, drop, replicate}
 use Rattle.refusal.specs.Returned.{Returned}
 use Rattle.refusal.proofs.Returned.{here, past, kept-is, is-met, returned}
-use Rattle.record.specs.Record.{bit, before, bytes, word, mapOf, present, field, illFormed, whole, formed}
+use Rattle.record.specs.Record.{bit, before, bytes, word, mapOf}
+use Rattle.record.specs.Record.{present, field, illFormed, whole, formed}
 use Rattle.record.specs.Record.{recordLimits, recordNumber, read, fields, rest}
 
 -- demand 1 of reading a record: 14, then 15, each where its condition holds and no earlier one does
@@ -32,7 +33,8 @@ module _ (s : List ℕ) where
     unfolding recordNumber
     good-map e =
         past (whole s) (formed (mapOf s) ∷ []) (kept-is (whole s) (record { least = h; most = omega arith }))
-        (past (formed (mapOf s)) [] (kept-is (formed (mapOf s)) (record { least = omega arith; most = omega (arith, e) })) refl)
+        (past (formed (mapOf s)) [] (kept-is (formed (mapOf s))
+        (record { least = omega arith; most = omega (arith, e) })) refl)
 
   module _ {n : ℕ} (e : n ≡ recordNumber s) where
     pub refused-fields : (n ≡ 0 → ⊥) → n ∷ replicate 8 0 ≡ fields s

@@ -96,8 +96,10 @@ none-met (more {l} {ls} k ks) = past l ls (kept-is l k) (none-met ks)
 module _ (post : List Limit) (l : Limit) where
   told : (pre : List Limit) → T (numbered (pre ++ l ∷ post)) → refusal (pre ++ l ∷ post) ≡ l .number
       → AllKept pre × (Kept l → ⊥)
-  told [] t e =
-      (none, λ k. not-returned (l .number) post (above l post t) (lone l post t) (past l post (kept-is l k) refl ∙ e))
+  told [] t e = (
+    none,
+    λ k. not-returned (l .number) post (above l post t) (lone l post t) (past l post (kept-is l k) refl ∙ e),
+  )
   told (k ∷ pre) t e = go (met k) refl (told pre (others k (pre ++ l ∷ post) t))
     where
       go : (b : Bool) → met k ≡ b → (refusal (pre ++ l ∷ post) ≡ l .number → AllKept pre × (Kept l → ⊥))

@@ -1,5 +1,5 @@
 -- Demand 1 of a call with the tests ls: each number is returned if and only if its condition holds and no
--- earlier one does. proofs/Returned.antt shows it of every list of different numbers above 0. Assumes nothing.
+-- earlier one does. proofs/Returned.antt has it of every list of different numbers above 0. Assumes nothing.
 use mathlib.Core.Path.{_≡_}
 use mathlib.Core.Bool.{Bool, true, false, not, _&&_}
 use mathlib.Core.Logic.{_↔_}

@@ -7,7 +7,8 @@ use native.Mathlib.Omega.{arith}
 use lib.IntN.{ℤ}
 use lib.ListN.{length, take, drop, length-append, length-drop, take-append-drop}
 use borrow.Rule.Slice.PartMut.{putMid, post-is}
-use lib.Seq.{drop-length, length-take-le, take-append-add, drop-append-add, take-append-seam, drop-append-seam}
+use lib.Seq.{drop-length, length-take-le, take-append-add}
+use lib.Seq.{drop-append-add, take-append-seam, drop-append-seam}
 use Rattle.integer.specs.Rounding.{M}
 use Rattle.samples.specs.Samples.{loudest}
 use Rattle.rule.specs.State.{State, step, sounds, blockAfter, blockOut}
@@ -25,7 +26,8 @@ after-append : (v : State) (xs ys : List ℤ) → blockAfter v (xs ++ ys) ≡ bl
 after-append v [] ys = refl
 after-append v (x ∷ xs) ys = after-append (step v x) xs ys
 
-out-append : (v : State) (xs ys : List ℤ) → blockOut v (xs ++ ys) ≡ blockOut v xs ++ blockOut (blockAfter v xs) ys
+out-append : (v : State) (xs ys : List ℤ) → blockOut v (xs ++ ys)
+    ≡ blockOut v xs ++ blockOut (blockAfter v xs) ys
 out-append v [] ys = refl
 out-append v (x ∷ xs) ys = ap (λ (l : List ℤ). sounds v ∷ l) (out-append (step v x) xs ys)
 
@@ -80,7 +82,8 @@ module _ {v u : State} (b : List ℤ) {c : List ℤ} (n : ℕ) (h : n ≤ length
   }
 
 -- ---- i samples, and n of the rest of the buffer, which is then c
-module _ {xs b c : List ℤ} {v u w : State} {i n : ℕ} (s : Rendered xs v b u i) (t : Rendered (drop i b) u c w n) where
+module _ {xs b c : List ℤ} {v u w : State} {i n : ℕ} (s : Rendered xs v b u i)
+    (t : Rendered (drop i b) u c w n) where
   here : length (take i b) ≡ i
   here = length-take-le i b (omega (arith, s .within, s .long))
 
@@ -89,7 +92,8 @@ module _ {xs b c : List ℤ} {v u w : State} {i n : ℕ} (s : Rendered xs v b u 
 
   then-done : take (i + n) (take i b ++ c) ≡ take i b ++ take n c
   then-done =
-      subst (λ (m : ℕ). take (m + n) (take i b ++ c) ≡ take i b ++ take n c) here (take-append-add (take i b) c n)
+      subst (λ (m : ℕ). take (m + n) (take i b ++ c) ≡ take i b ++ take n c) here
+      (take-append-add (take i b) c n)
 
   pub rendered-then : Rendered xs v (take i b ++ c) w (i + n)
   rendered-then = record {

@@ -30,7 +30,8 @@ module _ (s : List ℕ) where
   unfolding whole
   header-cut h = sym (here whole (openLimits (opening s)) (is-met whole (λ k. omega (arith, k .least))))
 
-  pub header-whole : 8 ≤ length s → {n : ℕ} → n ≡ refusal (openLimits (opening s)) → n ≡ refusal (headerLimits s)
+  pub header-whole : 8 ≤ length s → {n : ℕ} → n ≡ refusal (openLimits (opening s)) → n
+      ≡ refusal (headerLimits s)
   unfolding whole
   header-whole h e =
       past whole (openLimits (opening s)) (kept-is whole (record { least = h; most = omega arith })) e

@@ -63,7 +63,8 @@ has-room t room e = go (play-returned t room .accepted .0 e)
     go (more a (more b (more k none))) = (record-returned t .accepted .1 (more a (more b none)), k .most)
 
 -- ---- one record
-pub no-record : (n : ℕ) (v : State) (t : List ℕ) (room k : ℕ) → length t ≡ 0 → records n v t room k ≡ ends 0 k []
+pub no-record : (n : ℕ) (v : State) (t : List ℕ) (room k : ℕ) → length t ≡ 0 → records n v t room k
+    ≡ ends 0 k []
 unfolding records
 no-record zero v t room k e = refl
 no-record (suc n) v t room k e = rw (eq-eqb (length t) 0 e)
@@ -109,11 +110,13 @@ module _ (s : List ℕ) (u : State) (out : List ℤ) (v : State) (t : List ℕ) 
       plays-as u out (p .calls)
       (sym e ∙ ap (λ (cs : List Call). ends n k cs) (append-nil (p .calls))) (p .count) (p .output)
 
-  pub all-played : length t ≤ 0 → Plays (allRecords u s (length out)) u out (record { refusal = 0; place = k; written = done }) now
+  pub all-played : length t ≤ 0 → Plays (allRecords u s (length out)) u out
+      (record { refusal = 0; place = k; written = done }) now
   all-played h =
       let e : length t ≡ 0 = omega arith in
       ended 0
-      (ap (λ (o : Outcome). joined (p .calls) o) (sym (no-record (p .most) v t (length out - done) k e)) ∙ p .left)
+      (ap (λ (o : Outcome). joined (p .calls) o) (sym (no-record (p .most) v t (length out - done) k e))
+      ∙ p .left)
 
   module _ (h : 0 < length t) where
     abbrev pub n : ℕ
@@ -128,7 +131,8 @@ module _ (s : List ℕ) (u : State) (out : List ℤ) (v : State) (t : List ℕ) 
     pub opens : {o : Outcome} → played n v cs k later ≡ o → joined (p .calls) o ≡ allRecords u s (length out)
     opens e =
         ap (λ (o : Outcome). joined (p .calls) o) (sym e)
-        ∙ ap (λ (o : Outcome). joined (p .calls) o) (sym (one-record (p .most) v t (length out - done) k h (p .enough)))
+        ∙ ap (λ (o : Outcome). joined (p .calls) o) (sym (one-record (p .most) v t (length out - done) k h
+        (p .enough)))
         ∙ p .left
 
     pub refused : {m : ℕ} → m ≡ refusal (playLimits t (length out - done)) → (m ≡ 0 → ⊥)

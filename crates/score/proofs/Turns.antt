@@ -23,7 +23,8 @@ use Rattle.score.proofs.Playing.{Playing, has-room, later, opens, playe
 pub over-length : (ys out : List ℤ) → length ys ≤ length out → length (over ys out) ≡ length out
 over-length ys out h = rw length-append (omega (arith, length-drop (length ys) out))
 
-pub part-length : (d : ℕ) {w : ℕ} (out : List ℤ) → d + w ≤ length out → length (take (d + w - d) (drop d out)) ≡ w
+pub part-length : (d : ℕ) {w : ℕ} (out : List ℤ) → d + w ≤ length out
+    → length (take (d + w - d) (drop d out)) ≡ w
 part-length d {w} out h =
     let e : d + w - d ≡ w = omega arith in
     rw e (length-take-le w (drop d out) (omega (arith, length-drop d out)))
@@ -38,7 +39,8 @@ over-more xs ys out d {e} i j =
 
 module _ (s : List ℕ) (u : State) (out : List ℤ) (v : State) (t : List ℕ) (k done : ℕ) (now : List ℤ)
     (p : Playing s u out v t k done now) (h : 0 < length t)
-    (z : refusal (playLimits t (length out - done)) ≡ 0) (ys : List ℤ) (i : ys ≡ puts v (recordCalls (fields t) v)) where
+    (z : refusal (playLimits t (length out - done)) ≡ 0) (ys : List ℤ)
+    (i : ys ≡ puts v (recordCalls (fields t) v)) where
   abbrev cs : List Call
   cs = recordCalls (fields t) v
 
@@ -66,14 +68,16 @@ module _ (s : List ℕ) (u : State) (out : List ℤ) (v : State) (t : List ℕ) 
     within = omega (arith, has-room t (length out - done) z .1, p .within)
 
     pub still-long : length (putMid done (e - done) now ys) ≡ length out
-    still-long = rw more-output (over-length (puts u (p .calls ++ cs)) out (omega (arith, within, more-count)))
+    still-long = rw more-output (over-length (puts u (p .calls ++ cs)) out
+        (omega (arith, within, more-count)))
 
     pub stopped : {n : ℕ} → n ≡ result v cs → (n ≡ 0 → ⊥)
         → Plays (allRecords u s (length out)) u out (record { refusal = n; place = k; written = e })
         (putMid done (e - done) now ys)
     stopped {n} r f =
         plays-as u out (p .calls ++ cs)
-        (sym (opens s u out v t k done now p h (played-stops v cs k (later s u out v t k done now p h) z (λ q. f (r ∙ q))))
+        (sym (opens s u out v t k done now p h (played-stops v cs k (later s u out v t k done now p h) z
+        (λ q. f (r ∙ q))))
         ∙ ap (λ (m : ℕ). ends m k (p .calls ++ cs)) (sym r)) more-count more-output
 
     -- it takes a byte at least
@@ -91,8 +95,10 @@ module _ (s : List ℕ) (u : State) (out : List ℤ) (v : State) (t : List ℕ) 
       left =
           let o = later s u out v t k done now p h in
           let room : length out - e ≡ length out - done - value (fields t) 0 = omega arith in
-          ap (λ (x : State). joined (p .calls ++ cs) (records (p .most - 1) x (rest t) (length out - e) (k + 1))) q
-          ∙ ap (λ (n : ℕ). joined (p .calls ++ cs) (records (p .most - 1) (from v cs) (rest t) n (k + 1))) room
+          ap (λ (x : State). joined (p .calls ++ cs) (records (p .most - 1) x (rest t) (length out - e)
+          (k + 1))) q
+          ∙ ap (λ (n : ℕ). joined (p .calls ++ cs) (records (p .most - 1) (from v cs) (rest t) n (k + 1)))
+          room
           ∙ ap (λ (l : List Call). ends (o .number) (o .place) l) (append-assoc (p .calls) cs (o .calls))
           ∙ opens s u out v t k done now p h (played-all v cs k o z r);
       state = from-append u (p .calls) cs ∙ ap (λ (x : State). from x cs) (p .state) ∙ sym q;

@@ -8,7 +8,8 @@ use Rattle.parts.specs.declared.Pluck.{Pluck}
 use Rattle.parts.specs.Valid.{Plucked}
 use Rattle.step.specs.Sample.{Sounds}
 
-pub sounds-none : {p : Pluck} → Plucked p → p .left ≡ 0 → Sounds p (record { noise = record { n = pos 0 }; rest = p })
+pub sounds-none : {p : Pluck} → Plucked p → p .left ≡ 0
+    → Sounds p (record { noise = record { n = pos 0 }; rest = p })
 unfolding noise spent
 sounds-none k e =
     let z = k .none-left e in

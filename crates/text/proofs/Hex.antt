@@ -18,24 +18,24 @@ module _ (b : ℕ) where
 
   pub small : digit b ≡ false → 97 ≤ b → b ≤ 102 → b - 87 ≡ hexOf b
   small e h k =
-      sym (second (digit b) _ _ e ∙ first (leb 97 b) _ _ (le-leb 97 b h) ∙ first (leb b 102) _ _ (le-leb b 102 k))
+      sym (second (digit b) _ _ e ∙ first (leb 97 b) _ _ (le-leb 97 b h)
+      ∙ first (leb b 102) _ _ (le-leb b 102 k))
 
   pub past-small : digit b ≡ false → 97 ≤ b → 102 < b → 16 ≡ hexOf b
   past-small e h k =
-      sym (second (digit b) _ _ e ∙ first (leb 97 b) _ _ (le-leb 97 b h) ∙ second (leb b 102) _ _ (lt-leb b 102 k))
+      sym (second (digit b) _ _ e ∙ first (leb 97 b) _ _ (le-leb 97 b h)
+      ∙ second (leb b 102) _ _ (lt-leb b 102 k))
 
   pub large : digit b ≡ false → b < 97 → 65 ≤ b → b ≤ 70 → b - 55 ≡ hexOf b
   large e l h k =
-      sym
-      (second (digit b) _ _ e
+      sym (second (digit b) _ _ e
       ∙ second (leb 97 b) _ _ (lt-leb 97 b l)
       ∙ first (leb 65 b) _ _ (le-leb 65 b h)
       ∙ first (leb b 70) _ _ (le-leb b 70 k))
 
   pub past-large : digit b ≡ false → b < 97 → 65 ≤ b → 70 < b → 16 ≡ hexOf b
   past-large e l h k =
-      sym
-      (second (digit b) _ _ e
+      sym (second (digit b) _ _ e
       ∙ second (leb 97 b) _ _ (lt-leb 97 b l)
       ∙ first (leb 65 b) _ _ (le-leb 65 b h)
       ∙ second (leb b 70) _ _ (lt-leb b 70 k))
@@ -61,11 +61,13 @@ module _ (s : List ℕ) (h l : ℕ) (p : h ≡ hexOf (getD s 0 0)) (q : l ≡ he
 
   pub spelled : length s ≡ 2 → h < 16 → l < 16 → byte true (16 * h + l) ≡ byteOf s
   spelled e i j =
-      sym (two e ∙ ap (λ (t : Bool). byte t (16 * h + l)) (first (ltb h 16) _ _ (lt-ltb h 16 i) ∙ lt-ltb l 16 j))
+      sym (two e ∙ ap (λ (t : Bool). byte t (16 * h + l)) (first (ltb h 16) _ _ (lt-ltb h 16 i)
+      ∙ lt-ltb l 16 j))
 
   pub not-low : length s ≡ 2 → h < 16 → 16 ≤ l → byte false 0 ≡ byteOf s
   not-low e i j =
-      sym (two e ∙ ap (λ (t : Bool). byte t (16 * h + l)) (first (ltb h 16) _ _ (lt-ltb h 16 i) ∙ le-ltb l 16 j))
+      sym (two e ∙ ap (λ (t : Bool). byte t (16 * h + l)) (first (ltb h 16) _ _ (lt-ltb h 16 i)
+      ∙ le-ltb l 16 j))
 
   pub not-high : length s ≡ 2 → 16 ≤ h → byte false 0 ≡ byteOf s
   not-high e i = sym (two e ∙ ap (λ (t : Bool). byte t (16 * h + l)) (second (ltb h 16) _ _ (le-ltb h 16 i)))

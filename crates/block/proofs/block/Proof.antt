@@ -14,7 +14,8 @@ use Rattle.samples.specs.Samples.{loudest}
 use Rattle.rule.specs.Calls.{block}
 use Rattle.rule.specs.State.{blockAfter, blockOut}
 use Rattle.parts.specs.Struct.{voiceOf, stateOf}
-use Rattle.block.proofs.Blocks.{differ, too-loud, plays, refused-on, refused-lent, block-on, block-lent}
+use Rattle.block.proofs.Blocks.{differ, too-loud, plays, refused-on}
+use Rattle.block.proofs.Blocks.{refused-lent, block-on, block-lent}
 use Rattle.block.proofs.block.Statement.{statement}
 use Rattle.block.proofs.block.Tie as tie
 
@@ -34,8 +35,10 @@ returns-2 : tie.Need-returns-2
 returns-2 c =
     let a = c .before .before .before in
     let s = a .args in
-    let f = sym (c .before .all-samples .ensures) ∙ not-true (c .before .all-samples .result) (c .if2 .taken) in
-    let e = too-loud (voiceOf (s .head)) (s .input .now) (length (s .output .now)) (c .before .before .if1 .left) f in
+    let f = sym (c .before .all-samples .ensures)
+    ∙ not-true (c .before .all-samples .result) (c .if2 .taken) in
+    let e = too-loud (voiceOf (s .head)) (s .input .now) (length (s .output .now))
+    (c .before .before .if1 .left) f in
     let b = block (s .input .now) (length (s .output .now)) in (
       refused-on (s .head) (s .line .now) b (a .pre) e (λ z. omega arith),
       refused-lent (s .head) (s .line .now) b e (λ z. omega arith) (s .output .now),
@@ -72,7 +75,8 @@ returns-3 c =
     let v = stateOf (s .head) (s .line .now) in
     let n = length (s .output .now) in
     let e = plays (voiceOf (s .head)) (s .input .now) n (a .if1 .left) (quiet (d .before) (d .if2 .left)) in (
-      block-on (s .head) (s .line .now) (s .input .now) n e (r .render .result) (r .render .last .0) (r .render .ensures .1 .1)
+      block-on (s .head) (s .line .now) (s .input .now) n e (r .render .result) (r .render .last .0)
+          (r .render .ensures .1 .1)
           (r .render .ensures .0 ∙ ap (λ (l : List ℤ). blockAfter v l) (b .copy .ensures)),
       block-lent (s .head) (s .line .now) (s .input .now) n e (r .render .last .1 .1 .0) (s .output .now)
           (r .render .ensures .1 .0 ∙ ap (λ (l : List ℤ). blockOut v l) (b .copy .ensures)),

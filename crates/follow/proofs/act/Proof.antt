@@ -25,7 +25,8 @@ returns c =
     let a = c .before .before in
     let s = a .before .args in
     let r = s .r .now in
-    does-stops (lossCalls r) (then (changeCalls r) (pluckCalls r)) (s .head) (s .line .now) (a .set-loss .result) (s .line .now)
+    does-stops (lossCalls r) (then (changeCalls r) (pluckCalls r)) (s .head) (s .line .now)
+    (a .set-loss .result) (s .line .now)
     (losses a) (c .if1 .taken)
 
 change-requires : tie.Need-change-requires
@@ -39,9 +40,11 @@ returns-2 c =
     let a = e .before .before in
     let s = a .before .args in
     let r = s .r .now in
-    does-then (lossCalls r) (then (changeCalls r) (pluckCalls r)) (s .head) (s .line .now) (a .set-loss .result) (s .line .now)
+    does-then (lossCalls r) (then (changeCalls r) (pluckCalls r)) (s .head) (s .line .now)
+    (a .set-loss .result) (s .line .now)
     (losses a) (e .if1 .left) (b .change .result) (s .line .now)
-    (does-stops (changeCalls r) (pluckCalls r) (a .set-loss .result .head) (s .line .now) (b .change .result) (s .line .now)
+    (does-stops (changeCalls r) (pluckCalls r) (a .set-loss .result .head) (s .line .now)
+    (b .change .result) (s .line .now)
     (b .change .ensures) (c .if2 .taken))
 
 pluck-requires : tie.Need-pluck-requires
@@ -57,9 +60,11 @@ returns-3 c =
     let s = a .before .args in
     let r = s .r .now in
     let l = s .line .now in
-    does-then (lossCalls r) (then (changeCalls r) (pluckCalls r)) (s .head) l (a .set-loss .result) l (losses a) (e .if1 .left)
+    does-then (lossCalls r) (then (changeCalls r) (pluckCalls r)) (s .head) l (a .set-loss .result) l
+    (losses a) (e .if1 .left)
     (c .pluck .result) l
-    (does-then (changeCalls r) (pluckCalls r) (a .set-loss .result .head) l (b .change .result) l (b .change .ensures)
+    (does-then (changeCalls r) (pluckCalls r) (a .set-loss .result .head) l (b .change .result) l
+    (b .change .ensures)
     (d .if2 .left) (c .pluck .result) l (c .pluck .ensures l (b .change .ensures .valid)))
 
 pub act-spec : {M : Type 1} → statement M

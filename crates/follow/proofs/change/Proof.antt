@@ -42,12 +42,14 @@ module _ (c : tie.After-bit5) where
   length-is : c .before .before .before .before .chosen .result ≡ Run.lengthTo (fields start) (voice start)
   length-is =
       c .before .before .before .before .chosen .ensures
-      ∙ ap (λ (n : ℕ). cond (eqb n 0) (head start .filter .tuning .length) (Run.value (fields start) 1)) (c .before .before .before .before .before .before .bit3 .ensures)
+      ∙ ap (λ (n : ℕ). cond (eqb n 0) (head start .filter .tuning .length) (Run.value (fields start) 1))
+      (c .before .before .before .before .before .before .bit3 .ensures)
 
   delay-is : c .before .chosen2 .result ≡ Run.delayTo (fields start) (voice start)
   delay-is =
       c .before .chosen2 .ensures
-      ∙ ap (λ (n : ℕ). cond (eqb n 0) (head start .filter .tuning .delay) (Run.value (fields start) 2)) (c .before .before .before .bit4 .ensures)
+      ∙ ap (λ (n : ℕ). cond (eqb n 0) (head start .filter .tuning .delay) (Run.value (fields start) 2))
+      (c .before .before .before .bit4 .ensures)
 
 element-copy-out-map : tie.Need-element-copy-out-map
 element-copy-out-map c = search needs
@@ -97,9 +99,11 @@ returns-2 : tie.Need-returns-2
 returns-2 c =
     let a = c .before in
     let t = a .before in
-    part-one (head (start t)) (line (start t)) (Run.stands (fields (start t)) 1 + Run.stands (fields (start t)) 2) _ (changes t)
+    part-one (head (start t)) (line (start t))
+    (Run.stands (fields (start t)) 1 + Run.stands (fields (start t)) 2) _ (changes t)
     (on-as (on (line (start t)) (c .announce .ensures) (start t .pre .line))
-    (announced (fields (start t)) (voice (start t)) (length-is t) (delay-is t) (sym (t .bit5 .ensures) ∙ a .if2 .taken)))
+    (announced (fields (start t)) (voice (start t)) (length-is t) (delay-is t)
+    (sym (t .bit5 .ensures) ∙ a .if2 .taken)))
 
 instant-requires : tie.Need-instant-requires
 instant-requires c κs = search needs
@@ -108,9 +112,11 @@ returns-3 : tie.Need-returns-3
 returns-3 c =
     let a = c .before .before in
     let t = a .before in
-    part-one (head (start t)) (line (start t)) (Run.stands (fields (start t)) 1 + Run.stands (fields (start t)) 2) _ (changes t)
+    part-one (head (start t)) (line (start t))
+    (Run.stands (fields (start t)) 1 + Run.stands (fields (start t)) 2) _ (changes t)
     (on-as (c .before .instant .ensures .0)
-    (at-once (fields (start t)) (voice (start t)) (length-is t) (delay-is t) (λ z. a .if2 .left (t .bit5 .ensures ∙ z))))
+    (at-once (fields (start t)) (voice (start t)) (length-is t) (delay-is t)
+    (λ z. a .if2 .left (t .bit5 .ensures ∙ z))))
 
 pub change-spec : {M : Type 1} → statement M
 change-spec =

@@ -22,8 +22,11 @@ clear-requires c κs = search needs
 render-requires : tie.Need-render-requires
 render-requires c κs =
     let b = c .before .before .before in
-    let s = b .before .before in
-    (s .pre .0, subst (λ (xs : List ℤ). loudest xs ≤ M) (sym (b .clear .ensures)) (zeros-quiet (length (s .args .buffer .now))))
+    let s = b .before .before in (
+      s .pre .0,
+      subst (λ (xs : List ℤ). loudest xs ≤ M) (sym (b .clear .ensures))
+          (zeros-quiet (length (s .args .buffer .now))),
+    )
 
 act-requires : tie.Need-act-requires
 act-requires c κs = search needs
@@ -44,9 +47,11 @@ returns c =
     let k = n .render .last .0 in
     let e = b .clear .ensures ∙ ap (λ (m : ℕ). replicate m (pos 0)) (s .pre .1) in (
       does-then (waitCalls r) (actCalls r) h l (record { refusal = 0; head = n .render .result }) k
-          (wait-does r h l (n .render .result) k e (n .render .ensures .0) (n .render .ensures .1 .1)) refl (c .act .result) k
+          (wait-does r h l (n .render .result) k e (n .render .ensures .0) (n .render .ensures .1 .1)) refl
+          (c .act .result) k
           (c .act .ensures),
-      n .render .ensures .1 .0 ∙ ap (λ (xs : List ℤ). blockOut (stateOf h l) xs) e ∙ sym (record-puts r (stateOf h l)),
+      n .render .ensures .1 .0 ∙ ap (λ (xs : List ℤ). blockOut (stateOf h l) xs) e
+          ∙ sym (record-puts r (stateOf h l)),
     )
 
 pub follow-spec : {M : Type 1} → statement M

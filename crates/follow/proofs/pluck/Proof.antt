@@ -24,7 +24,8 @@ returns c =
     let b = c .before in
     let s = b .before .before .args in
     let r = s .r .now in
-    λ l g. part-none (s .head) l (stands r 4) (pluck (value r 4) (countOf r (stateOf (s .head) l)) (value r 6)) g
+    λ l g. part-none (s .head) l (stands r 4)
+    (pluck (value r 4) (countOf r (stateOf (s .head) l)) (value r 6)) g
     (sym (b .bit .ensures) ∙ c .if1 .taken)
 
 bit-requires-2 : tie.Need-bit-requires-2
@@ -53,7 +54,8 @@ returns-2 c =
     let b = e .before in
     let s = b .before .before .args in
     let r = s .r .now in
-    let k = n .chosen .ensures ∙ ap (λ (x : ℕ). cond (eqb x 0) (s .head .filter .tuning .length) (value r 5)) (i .bit2 .ensures) in
+    let k = n .chosen .ensures
+    ∙ ap (λ (x : ℕ). cond (eqb x 0) (s .head .filter .tuning .length) (value r 5)) (i .bit2 .ensures) in
     λ l g. part-one (s .head) l (stands r 4) (pluck (value r 4) (countOf r (stateOf (s .head) l)) (value r 6))
     (λ z. e .if1 .left (b .bit .ensures ∙ z))
     (on-as (on l (c .pluck .ensures) (g .line)) (ap (λ (x : ℕ). pluck (value r 4) x (value r 6)) k))

@@ -1,4 +1,4 @@
--- `jivaszte::jivaszte_record` meets its contract: a record's bytes are those that the rest of the score lacks.
+-- `jivaszte::jivaszte_record` meets its contract: a record's bytes are those that the rest lacks.
 -- Assumes nothing.
 use mathlib.Core.Path.{_≡_, ap, _∙_}
 use mathlib.Core.List.{List}

@@ -1,4 +1,4 @@
--- `jivaszte::jivaszte_run` meets its contract: what the run returned is its result and stands in what it is lent.
+-- `jivaszte::jivaszte_run` meets its contract: what the run returned is in its result and in what is lent.
 -- Assumes nothing.
 use borrow.Author.Needs.{needs}
 use Rattle.jivaszte.proofs.jivaszte_run.Statement.{statement}

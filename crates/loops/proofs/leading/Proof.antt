@@ -45,7 +45,8 @@ loop-holds c =
     (s .pre .0 .0 .fit .waiting) in
     let z : t + 0 ≡ t = omega arith in
     let same = due-self h (s .pre .1 .0) (s .pre .1 .0 ∙ sym (w .same)) (s .pre .1 .1) z (w .fewer) in (
-      subst (λ (k : Head). Rendered (s .args .buffer .now) (stateOf h l) (s .args .buffer .now) (stateOf k l) 0)
+      subst (λ (k : Head). Rendered (s .args .buffer .now) (stateOf h l) (s .args .buffer .now)
+          (stateOf k l) 0)
           (sym same)
           (begun (s .args .buffer .now) (stateOf h l) (s .pre .0 .1)),
       subst (λ (k : Head). Valid k l) (sym same) (s .pre .0 .0),
@@ -79,7 +80,8 @@ module _ (c : tie.After-read Inv-loop μ-loop) where
       due-later quiet eliminator (start .args .taken + pass .loop .i)
       (omega (arith, start .pre .0 .2, pass .loop .inv .0 .long, c .before .before .loop-test .taken))
 
-  so-far : Rendered (start .args .buffer .now) begins (pass .loop .buffer) (stateOf head (pass .loop .line)) (pass .loop .i)
+  so-far : Rendered (start .args .buffer .now) begins (pass .loop .buffer)
+      (stateOf head (pass .loop .line)) (pass .loop .i)
   so-far = rw waits at (pass .loop .inv .0)
 
   valid : Valid head (pass .loop .line)
@@ -88,7 +90,8 @@ module _ (c : tie.After-read Inv-loop μ-loop) where
   small : natAbs (c .read .result .n) ≤ M
   small =
       subst (λ (z : ℤ). natAbs z ≤ M) (sym (c .read .ensures))
-      (sample (start .args .buffer .now) begins (pass .loop .buffer) (stateOf head (pass .loop .line)) (pass .loop .i)
+      (sample (start .args .buffer .now) begins (pass .loop .buffer) (stateOf head (pass .loop .line))
+      (pass .loop .i)
       so-far
       (c .before .before .loop-test .taken))
 
@@ -127,7 +130,8 @@ moved-requires c κs =
     let g = c .before .before .before .before .before .before .before .before in
     let v = valid (g .before .before .before) in (
       subst (λ (f : Filter). Tuned f) (sym (c .anew2 .ensures)) (v .fit .waiting .tuned),
-      read-within (start (g .before .before .before) .args .e .tuning .length - 1) (v .line) (g .read2 .ensures),
+      read-within (start (g .before .before .before) .args .e .tuning .length - 1) (v .line)
+          (g .read2 .ensures),
     )
 
 add-i : tie.Need-add-i Inv-loop μ-loop
@@ -156,22 +160,27 @@ loop-again c =
     let made = rw (k .before .before .anew .ensures) at (k .circulate .ensures) in
     let n = c .before .before .moved .result in
     let m : Moved (eliminator r) (back (ring (l .at) (l .line)) (s .args .e .tuning .length)) n
-    = rw (c .before .before .before .anew2 .ensures, g .read2 .ensures) at (c .before .before .moved .ensures) in
+    = rw (c .before .before .before .anew2 .ensures, g .read2 .ensures) at
+    (c .before .before .moved .ensures) in
     let e = led-steps h (s .pre .1 .2) made m (valid r) in
     let f = k .circulate .result .filter in
     let y = k .circulate .result .y in
     let at = k .circulate .result .at in
     let w = stateOf (dueOf (carriedOf h f y at) n ((s .args .taken + l .i) + 1)) (k .circulate .last .0) in
-    let same-filter = as-anew (h .filter) (valid r .fit .filter) (made .hears .moved .tuned) (made .hears .moved .tuning) in
+    let same-filter = as-anew (h .filter) (valid r .fit .filter) (made .hears .moved .tuned)
+    (made .hears .moved .tuning) in
     let same-next = as-anew (s .args .e) (valid r .fit .waiting .tuned) (m .tuned) (m .tuning) in
     let z : (s .args .taken + l .i) + 1 ≡ s .args .taken + (l .i + 1) = omega arith in
     let same =
     ap (λ (f : Filter). dueOf (carriedOf h f y at) n ((s .args .taken + l .i) + 1)) same-filter
-    ∙ ap (λ (n : Filter). dueOf (carriedOf h (anewOf (s .args .order) (h .filter) (f .state)) y at) n ((s .args .taken + l .i) + 1)) same-next
-    ∙ ap (λ (t : ℕ). dueOf (carriedOf h (anewOf (s .args .order) (h .filter) (f .state)) y at) (anewOf (s .args .order) (s .args .e) (n .state)) t) z in
+    ∙ ap (λ (n : Filter). dueOf (carriedOf h (anewOf (s .args .order) (h .filter) (f .state)) y at) n
+    ((s .args .taken + l .i) + 1)) same-next
+    ∙ ap (λ (t : ℕ). dueOf (carriedOf h (anewOf (s .args .order) (h .filter) (f .state)) y at)
+    (anewOf (s .args .order) (s .args .e) (n .state)) t) z in
     let i = e .state ∙ ap (λ (x : ℤ). step (stateOf (head r) (l .line)) x) (r .read .ensures) in
     subst
-    (λ (d : Head). Rendered xs (begins r) (wrote .write .last .0) (stateOf d (k .circulate .last .0)) (l .i + 1)
+    (λ (d : Head). Rendered xs (begins r) (wrote .write .last .0) (stateOf d (k .circulate .last .0))
+    (l .i + 1)
     × Valid d (k .circulate .last .0))
     same (
       subst (λ (b : List ℤ). Rendered xs (begins r) b w (l .i + 1)) (sym (wrote .write .ensures))
@@ -203,8 +212,10 @@ returns c =
     let end : l .i ≡ n = omega (arith, i .long, i .within, c .before .before .before .loop-test .left) in
     let same =
     ap (λ (k : Head). dueOf k (c .anew4 .result) (s .args .taken + n))
-    (c .before .carried .ensures ∙ ap (λ (f : Filter). carriedOf h f (l .last) (l .at)) (c .before .before .anew3 .ensures))
-    ∙ ap (λ (e : Filter). dueOf (carriedOf h (anewOf (s .args .order) (h .filter) (l .v)) (l .last) (l .at)) e (s .args .taken + n))
+    (c .before .carried .ensures ∙ ap (λ (f : Filter). carriedOf h f (l .last) (l .at))
+    (c .before .before .anew3 .ensures))
+    ∙ ap (λ (e : Filter). dueOf (carriedOf h (anewOf (s .args .order) (h .filter) (l .v)) (l .last)
+    (l .at)) e (s .args .taken + n))
     (c .anew4 .ensures) in
     subst
     (λ (k : Head). Rendered (s .args .buffer .now) b (l .buffer) (stateOf k (l .line)) n × Valid k (l .line))

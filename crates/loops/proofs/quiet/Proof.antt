@@ -34,7 +34,8 @@ loop-holds c =
     let h = s .args .h in
     let l = s .args .line .now in
     let same = carried-self h (anew-self (h .filter) (s .pre .1 .0)) (s .pre .1 .1) in (
-      subst (λ (k : Head). Rendered (s .args .buffer .now) (stateOf h l) (s .args .buffer .now) (stateOf k l) 0)
+      subst (λ (k : Head). Rendered (s .args .buffer .now) (stateOf h l) (s .args .buffer .now)
+          (stateOf k l) 0)
           (sym same)
           (begun (s .args .buffer .now) (stateOf h l) (s .pre .0 .1)),
       subst (λ (k : Head). Valid k l) (sym same) (s .pre .0 .0),
@@ -49,7 +50,8 @@ module _ (c : tie.After-read Inv-loop μ-loop) where
   pass = c .before .before .before
 
   abbrev head : Head
-  head = carriedOf (start .args .h) (anewOf (start .args .order) (start .args .h .filter) (pass .loop .v)) (pass .loop .last) (pass .loop .at)
+  head = carriedOf (start .args .h) (anewOf (start .args .order) (start .args .h .filter) (pass .loop .v))
+      (pass .loop .last) (pass .loop .at)
 
   abbrev begins : State
   begins = stateOf (start .args .h) (start .args .line .now)
@@ -57,7 +59,8 @@ module _ (c : tie.After-read Inv-loop μ-loop) where
   quiet-sample : natAbs (c .read .result .n) ≤ M
   quiet-sample =
       subst (λ (z : ℤ). natAbs z ≤ M) (sym (c .read .ensures))
-      (sample (start .args .buffer .now) begins (pass .loop .buffer) (stateOf head (pass .loop .line)) (pass .loop .i)
+      (sample (start .args .buffer .now) begins (pass .loop .buffer) (stateOf head (pass .loop .line))
+      (pass .loop .i)
       (pass .loop .inv .0)
       (c .before .before .loop-test .taken))
 
@@ -103,7 +106,8 @@ loop-again c =
     let g = k .circulate .result .filter in
     let y = k .circulate .result .y in
     let at = k .circulate .result .at in
-    let same = as-anew (h .filter) (l .inv .1 .fit .filter) (made .hears .moved .tuned) (made .hears .moved .tuning) in
+    let same = as-anew (h .filter) (l .inv .1 .fit .filter) (made .hears .moved .tuned)
+    (made .hears .moved .tuning) in
     let w = stateOf (carriedOf h g y at) (k .circulate .last .0) in
     let n = e .state ∙ ap (λ (x : ℤ). step (stateOf (head r) (l .line)) x) (r .read .ensures) in
     subst
@@ -138,7 +142,8 @@ returns c =
     let same =
     c .carried .ensures ∙ ap (λ (f : Filter). carriedOf h f (l .last) (l .at)) (c .before .anew2 .ensures) in
     subst
-    (λ (k : Head). Rendered (s .args .buffer .now) b (l .buffer) (stateOf k (l .line)) (length (s .args .buffer .now))
+    (λ (k : Head). Rendered (s .args .buffer .now) b (l .buffer) (stateOf k (l .line))
+    (length (s .args .buffer .now))
     × Valid k (l .line))
     (sym same)
     (rw end at i, l .inv .1)

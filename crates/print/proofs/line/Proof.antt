@@ -21,7 +21,8 @@ returns : tie.Need-returns
 returns c =
     let w = c .before .before .before in
     let s = w .before .before .before .before in
-    let h = signed-within (s .args .x .n) (s .args .buffer .now) (w .signed .last .0) 4097 (w .signed .ensures) (search needs) (search needs) in
+    let h = signed-within (s .args .x .n) (s .args .buffer .now) (w .signed .last .0) 4097
+    (w .signed .ensures) (search needs) (search needs) in
     wrote-within (c .bytes .ensures) 4097 h (search needs)
 
 pub line-spec : {M : Type 1} → statement M

@@ -17,7 +17,8 @@ signed-requires c κs = search needs
 returns : tie.Need-returns
 returns c =
     let b = c .before .before in
-    signed-within (b .before .before .before .args .x .n) (b .bytes .last .0) (c .signed .last .0) 4097 (c .signed .ensures)
+    signed-within (b .before .before .before .args .x .n) (b .bytes .last .0) (c .signed .last .0) 4097
+    (c .signed .ensures)
     (b .bytes .ensures)
     (search needs)
 

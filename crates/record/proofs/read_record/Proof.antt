@@ -53,7 +53,8 @@ returns-3 c =
     let i = t .before in
     let b = i .before .before in
     let s = b .before .before .before .before .args .s .now in
-    let e = bad-map s (omega (arith, i .before .if2 .left, b .bytes .ensures)) (λ z. t .if3 .taken (i .ill-formed .ensures ∙ z)) in
+    let e = bad-map s (omega (arith, i .before .if2 .left, b .bytes .ensures))
+    (λ z. t .if3 .taken (i .ill-formed .ensures ∙ z)) in
     (c .refuse3 .ensures ∙ refused-fields s e (λ z. omega arith), refused-rest s e (λ z. omega arith))
 
 fill-requires : tie.Need-fill-requires
@@ -74,7 +75,8 @@ returns-4 c =
     let i = t .before in
     let b = i .before .before in
     let s = b .before .before .before .before .args .s .now in
-    let e = good-map s (omega (arith, i .before .if2 .left, b .bytes .ensures)) (sym (i .ill-formed .ensures) ∙ t .if3 .left) in (
+    let e = good-map s (omega (arith, i .before .if2 .left, b .bytes .ensures))
+    (sym (i .ill-formed .ensures) ∙ t .if3 .left) in (
       c .before .fill .ensures ∙ taken-fields s e,
       part-to-end s (b .bytes .result) ∙ ap (λ (n : ℕ). drop n s) (b .bytes .ensures) ∙ taken-rest s e,
     )

@@ -26,7 +26,10 @@ abbrev μ-loop : tie.MeasureT-loop
 μ-loop line₀ buffer₀ head₀ i₀ line buffer head i = length buffer₀ - i
 
 loop-holds : tie.Need-loop-holds Inv-loop μ-loop
-loop-holds c = (begun (c .args .buffer .now) (stateOf (c .args .h) (c .args .line .now)) (c .pre .1), c .pre .0)
+loop-holds c = (
+  begun (c .args .buffer .now) (stateOf (c .args .h) (c .args .line .now)) (c .pre .1),
+  c .pre .0,
+)
 
 mul-stretch : tie.Need-mul-stretch Inv-loop μ-loop
 mul-stretch c = omega (arith, c .before .loop-test .taken, c .before .before .before .good)
@@ -70,19 +73,33 @@ module _ (c : tie.After-stretch Inv-loop μ-loop) where
       ≡ take (pass .loop .i) (pass .loop .buffer) ++ c .stretch .last .1 .1 .0
   joined =
       let l = pass .loop in
-      back (l .i) (l .buffer) (c .stretch .last .1 .1 .0) (omega (arith, c .before .before .before .loop-test .taken))
+      back (l .i) (l .buffer) (c .stretch .last .1 .1 .0)
+      (omega (arith, c .before .before .before .loop-test .taken))
 
 add-i : tie.Need-add-i Inv-loop μ-loop
 add-i c =
     let k = c .before .before .before in
     let l = pass k .loop in
-    omega (arith, part k .within, length-drop (l .i) (l .buffer), c .before .before .before .before .before .before .loop-test .taken, pass k .before .good)
+    omega (
+      arith,
+      part k .within,
+      length-drop (l .i) (l .buffer),
+      c .before .before .before .before .before .before .loop-test .taken,
+      pass k .before .good,
+    )
 
 loop-less : tie.Need-loop-less Inv-loop μ-loop
 loop-less c =
     let k = c .before .before .before in
     let l = pass k .loop in
-    omega (arith, part k .within, goes-on k, l .inv .0 .long, l .inv .0 .within, length-drop (l .i) (l .buffer))
+    omega (
+      arith,
+      part k .within,
+      goes-on k,
+      l .inv .0 .long,
+      l .inv .0 .within,
+      length-drop (l .i) (l .buffer),
+    )
 
 loop-again : tie.Need-loop-again Inv-loop μ-loop
 loop-again c =

@@ -24,7 +24,10 @@ abbrev μ-loop : tie.MeasureT-loop
 μ-loop line₀ buffer₀ head₀ i₀ line buffer head i = length buffer₀ - i
 
 loop-holds : tie.Need-loop-holds Inv-loop μ-loop
-loop-holds c = (begun (c .args .buffer .now) (stateOf (c .args .h) (c .args .line .now)) (c .pre .1), c .pre .0)
+loop-holds c = (
+  begun (c .args .buffer .now) (stateOf (c .args .h) (c .args .line .now)) (c .pre .1),
+  c .pre .0,
+)
 
 read-requires : tie.Need-read-requires Inv-loop μ-loop
 read-requires c κs = search needs
@@ -42,12 +45,16 @@ step-requires c κs =
     let l = c .before .before .before .before .loop in
     let s = c .before .before .before .before .before .args in
     let r =
-    sample (s .buffer .now) (stateOf (s .h) (s .line .now)) (l .buffer) (stateOf (l .head) (l .line)) (l .i) (l .inv .0)
+    sample (s .buffer .now) (stateOf (s .h) (s .line .now)) (l .buffer) (stateOf (l .head) (l .line))
+    (l .i) (l .inv .0)
     (c .before .before .before .loop-test .taken) in
     (l .inv .1, subst (λ (z : ℤ). natAbs z ≤ M) (sym (is-read (c .before))) r)
 
 write-requires : tie.Need-write-requires Inv-loop μ-loop
-write-requires c κs = (c .before .before .before .before .before .before .loop-test .taken, c .before .before .step .ensures .small)
+write-requires c κs = (
+  c .before .before .before .before .before .before .loop-test .taken,
+  c .before .before .step .ensures .small,
+)
 
 add-i : tie.Need-add-i Inv-loop μ-loop
 add-i c = search needs
@@ -74,7 +81,8 @@ module _ (c : tie.After-write Inv-loop μ-loop) where
       let w = stateOf (stepped .step .result .head) (stepped .step .last .0) in
       let n = e .state ∙ ap (λ (x : ℤ). step u x) (is-read (stepped .before .before)) in (
         subst (λ (k : List ℤ). Rendered xs begins k w (l .i + 1)) (sym (c .write .ensures))
-            (rendered xs begins (l .buffer) u (l .i) (l .inv .0) (stepped .before .before .before .before .loop-test .taken) w
+            (rendered xs begins (l .buffer) u (l .i) (l .inv .0)
+            (stepped .before .before .before .before .loop-test .taken) w
             (stepped .step .result .y .n) n (e .y)),
         e .valid,
       )

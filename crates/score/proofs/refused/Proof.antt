@@ -39,7 +39,10 @@ returns-3 c =
     let w = c .before in
     let b = w .before .before in
     let l = one (b .before .before) in
-    let o = kept-is l (record { least = omega arith; most = omega (arith, c .if2 .left, w .as-length .ensures) }) in
+    let o = kept-is l (record {
+      least = omega arith;
+      most = omega (arith, c .if2 .left, w .as-length .ensures);
+    }) in
     λ ls t e. past l [] o refl ∙ sym (passes ls (l ∷ []) t (sym e ∙ b .if1 .left))
 
 pub refused-spec : {M : Type 1} → statement M

@@ -27,7 +27,8 @@ module _ (c : tie.After-open) where
     G = c .before .before .word3 .result;
     Na = getD bytes 1 0;
   } ≡ opening bytes
-  asked = opening-is bytes (c .before .before .before .before .word .ensures) (c .before .before .before .word2 .ensures) (c .before .before .word3 .ensures)
+  asked = opening-is bytes (c .before .before .before .before .word .ensures)
+      (c .before .before .before .word2 .ensures) (c .before .before .word3 .ensures)
 
   number-is : c .«open» .result .refusal ≡ refusal (headerLimits bytes)
   number-is =
@@ -37,7 +38,8 @@ module _ (c : tie.After-open) where
 returns : tie.Need-returns
 returns c =
     let s = c .before .before .args in
-    run-refused (s .score .now) (s .output .now) (header-cut (s .score .now) (c .if1 .taken)) (λ z. omega arith)
+    run-refused (s .score .now) (s .output .now) (header-cut (s .score .now) (c .if1 .taken))
+    (λ z. omega arith)
 
 shared-slice-read-open : tie.Need-shared-slice-read-open
 shared-slice-read-open c = search needs
@@ -66,7 +68,8 @@ open-requires c κs = search needs
 returns-2 : tie.Need-returns-2
 returns-2 c =
     let a = c .before .before in
-    run-refused (bytes a) (a .before .before .before .before .before .before .before .before .args .output .now) (number-is a) (c .if2 .taken)
+    let o = a .before .before .before .before .before .before .before .before .args .output .now in
+    run-refused (bytes a) o (number-is a) (c .if2 .taken)
 
 sub-play : tie.Need-sub-play
 sub-play c = search needs
@@ -94,7 +97,8 @@ returns-3 c =
     let k = p .play .last .1 .1 .1 .0 in
     run-played s out r k (sym (number-is a) ∙ e .if2 .left)
     (subst (λ (t : List ℕ). PlaysAll t (fresh (opening s)) out r k) (part-to-end s 8)
-    (subst (λ (v : State). PlaysAll (take (length s - 8) (drop 8 s)) v out r k) (a .«open» .ensures .state ∙ ap (λ (o : Opening). fresh o) (asked a))
+    (subst (λ (v : State). PlaysAll (take (length s - 8) (drop 8 s)) v out r k)
+    (a .«open» .ensures .state ∙ ap (λ (o : Opening). fresh o) (asked a))
     (p .play .ensures)))
 
 pub run-spec : {M : Type 1} → statement M

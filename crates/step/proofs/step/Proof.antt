@@ -33,8 +33,11 @@ settled-requires c κs =
     let s = r .before .before .before in
     let v = s .pre .0 in
     let o = p .sound .ensures in
-    let k = l .circulate .ensures in
-    (heard-fit v o k, heard-waiting v o k, read-within (r .before .preview .result - 1) (v .line) (r .read .ensures))
+    let k = l .circulate .ensures in (
+      heard-fit v o k,
+      heard-waiting v o k,
+      read-within (r .before .preview .result - 1) (v .line) (r .read .ensures),
+    )
 
 returns : tie.Need-returns
 returns c =

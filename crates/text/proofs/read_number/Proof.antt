@@ -10,7 +10,8 @@ use borrow.Author.Tests.{not-true, not-false}
 use lib.ListN.{length, drop, getD}
 use Rattle.text.specs.Numbers.{digit, digits, decimal}
 use Rattle.text.proofs.Flags.{first, second}
-use Rattle.text.proofs.Digits.{low, grows, digits-more, decimal-more, unread, empty, not-digits, too-large, read, digits-end, decimal-end}
+use Rattle.text.proofs.Digits.{low, grows, digits-more, decimal-more, unread, empty}
+use Rattle.text.proofs.Digits.{not-digits, too-large, read, digits-end, decimal-end}
 use Rattle.text.proofs.read_number.Statement.{statement}
 use Rattle.text.proofs.read_number.Tie as tie
 

@@ -56,7 +56,11 @@ loop-again c =
 returns-2 : tie.Need-returns-2 Inv-loop μ-loop
 returns-2 c =
     let l = c .before .loop in
-    record { within = l .inv .0; blanks = l .inv .1; here = λ h. absurd (omega (arith, h, c .loop-test .left)) }
+    record {
+      within = l .inv .0;
+      blanks = l .inv .1;
+      here = λ h. absurd (omega (arith, h, c .loop-test .left));
+    }
 
 pub blanks-spec : {M : Type 1} → statement M
 blanks-spec =

@@ -27,7 +27,8 @@ kept : (c : tie.At-loop Inv-loop μ-loop) → length (c .loop .buffer) ≡ lengt
 kept c =
     let a = c .before .args in
     ap length (c .loop .inv .1)
-    ∙ length-paste (a .buffer .now) (a .at) (a .s .now) (c .loop .i) (omega (arith, c .before .pre, c .loop .inv .0))
+    ∙ length-paste (a .buffer .now) (a .at) (a .s .now) (c .loop .i)
+    (omega (arith, c .before .pre, c .loop .inv .0))
     (c .loop .inv .0)
 
 add-buffer : tie.Need-add-buffer Inv-loop μ-loop

@@ -32,7 +32,8 @@ add-result : tie.Need-add-result
 add-result c = rw (x-read c) (more-fits (x c) (fits c) (below c))
 
 sub-result : tie.Need-sub-result
-sub-result c = rw (x-read c, toZ-ofZ (more-fits (x c) (fits c) (below c))) (turned-fits (x c) (fits c) (below c))
+sub-result c = rw (x-read c, toZ-ofZ (more-fits (x c) (fits c) (below c)))
+    (turned-fits (x c) (fits c) (below c))
 
 cast-result : tie.Need-cast-result
 cast-result c =
@@ -45,7 +46,8 @@ add-result-2 : tie.Need-add-result-2
 add-result-2 c =
     let f = fits c in
     let l = below c in
-    rw (x-read c, toZ-ofZ (more-fits (x c) f l), toZ-ofZ (turned-fits (x c) f l)) (omega (arith, bounded (x c) f l))
+    rw (x-read c, toZ-ofZ (more-fits (x c) f l), toZ-ofZ (turned-fits (x c) f l))
+    (omega (arith, bounded (x c) f l))
 
 returns : tie.Need-returns
 returns c =

@@ -41,7 +41,8 @@ returns c =
       start = b .bytes .result;
       sign = b .bytes .ensures;
       number = subst
-          (λ (k : ℕ). Spelled k (b .bytes .last .0) (b .bytes .result) (n .number .last .0) (n .number .result))
+          (λ (k : ℕ). Spelled k (b .bytes .last .0) (b .bytes .result) (n .number .last .0)
+          (n .number .result))
           (m .magnitude .ensures) (n .number .ensures);
     })
 

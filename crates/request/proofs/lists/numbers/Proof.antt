@@ -48,7 +48,11 @@ loop-less : tie.Need-loop-less Inv-loop μ-loop
 loop-less c = search needs
 
 loop-again : tie.Need-loop-again Inv-loop μ-loop
-loop-again c = let l = c .before .before .before .before .before .before .loop in (simp length-set (l .inv .0), omega arith, omega arith)
+loop-again c = let l = c .before .before .before .before .before .before .loop in (
+  simp length-set (l .inv .0),
+  omega arith,
+  omega arith,
+)
 
 returns-2 : tie.Need-returns-2 Inv-loop μ-loop
 returns-2 c = search needs

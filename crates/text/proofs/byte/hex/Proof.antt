@@ -46,13 +46,15 @@ sub-result-3 c = search needs
 
 returns-4 : tie.Need-returns-4
 returns-4 c = (
-  large _ (isnt (c .before .before .before)) (c .before .before .if2 .left) (c .before .if4 .taken) (c .if5 .taken),
+  large _ (isnt (c .before .before .before)) (c .before .before .if2 .left) (c .before .if4 .taken)
+      (c .if5 .taken),
   omega arith,
 )
 
 returns-5 : tie.Need-returns-5
 returns-5 c = (
-  past-large _ (isnt (c .before .before .before)) (c .before .before .if2 .left) (c .before .if4 .taken) (c .if5 .left),
+  past-large _ (isnt (c .before .before .before)) (c .before .before .if2 .left) (c .before .if4 .taken)
+      (c .if5 .left),
   omega arith,
 )
 
