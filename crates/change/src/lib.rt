@@ -22,7 +22,7 @@ use parts::resting;
 use parts::untuned;
 use parts::with;
 use refusal::tested;
-use step::moved;
+use step::filter::moved;
 
 // What an instant change returns: count is the number of samples that its eliminator was run over.
 pub struct Changed {

@@ -23,7 +23,7 @@ use Rattle.parts.specs.declared.Waiting.the-variants.{Idle, Announced}
 use Rattle.parts.specs.declared.Head.{Head}
 use Rattle.parts.specs.Struct.{withOf}
 use Rattle.parts.specs.Valid.{Tuned, Valid}
-use Rattle.step.specs.declared.Circulated.{Circulated}
+use Rattle.step.specs.declared.feedback.Circulated.{Circulated}
 use Rattle.step.specs.Sample.{Moved, Settles, Circulates, Steps}
 use Rattle.step.proofs.Silent.{sounds-none}
 use Rattle.step.proofs.Settles.{settles-idle, settles-now, settles-later}

@@ -16,8 +16,8 @@ use crate::carried::due;
 use integer::Value;
 use parts::Filter;
 use parts::Head;
-use step::circulate;
-use step::moved;
+use step::feedback::circulate;
+use step::filter::moved;
 
 mod carried;
 

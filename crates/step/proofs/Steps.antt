@@ -16,8 +16,8 @@ use Rattle.parts.specs.declared.Waiting.{Waiting}
 use Rattle.parts.specs.declared.Waiting.the-variants.{Idle, Announced}
 use Rattle.parts.specs.declared.Pluck.{Pluck}
 use Rattle.parts.specs.declared.Head.{Head}
-use Rattle.step.specs.declared.Sounded.{Sounded}
-use Rattle.step.specs.declared.Circulated.{Circulated}
+use Rattle.step.specs.declared.sound.Sounded.{Sounded}
+use Rattle.step.specs.declared.feedback.Circulated.{Circulated}
 use Rattle.parts.specs.Struct.{waitingOf, voiceOf}
 use Rattle.parts.specs.Valid.{Waiting-valid, Fit, Valid}
 use Rattle.parts.proofs.Within.{take-within}

@@ -16,9 +16,9 @@ use Rattle.parts.specs.declared.Waiting.{Waiting}
 use Rattle.parts.specs.declared.Waiting.the-variants.{Idle, Announced}
 use Rattle.parts.specs.declared.Pluck.{Pluck}
 use Rattle.parts.specs.declared.Head.{Head}
-use Rattle.step.specs.declared.Heard.{Heard}
-use Rattle.step.specs.declared.Sounded.{Sounded}
-use Rattle.step.specs.declared.Circulated.{Circulated}
+use Rattle.step.specs.declared.filter.Heard.{Heard}
+use Rattle.step.specs.declared.sound.Sounded.{Sounded}
+use Rattle.step.specs.declared.feedback.Circulated.{Circulated}
 use Rattle.step.specs.declared.Stepped.{Stepped}
 use Rattle.parts.specs.Struct.{tuningOf, filterOf, waitingOf, pluckOf, voiceOf, stateOf}
 use Rattle.parts.specs.Valid.{Tuned, Plucked, Fit, Valid}

@@ -1,4 +1,4 @@
--- `step::mixed` meets its contract: the sums are at most 2^24 and 2^25.
+-- `step::feedback::mixed` meets its contract: the sums are at most 2^24 and 2^25.
 -- Assumes nothing.
 use mathlib.Core.Path.{_≡_}
 use Prim.Native.Nat.{_≤_, _^_}
@@ -9,8 +9,8 @@ use mir.Syntax.{w64}
 use Rattle.integer.proofs.View.{abs-fits}
 use Rattle.integer.proofs.Ring.{abs-+}
 use Rattle.step.proofs.Machine.{back, kept, terms}
-use Rattle.step.proofs.mixed.Statement.{statement}
-use Rattle.step.proofs.mixed.Tie as tie
+use Rattle.step.proofs.feedback.mixed.Statement.{statement}
+use Rattle.step.proofs.feedback.mixed.Tie as tie
 
 module _ (s : tie.Start) where
   abbrev x : ℤ

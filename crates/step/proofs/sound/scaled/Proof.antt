@@ -1,4 +1,4 @@
--- `step::scaled` meets its contract: the product is at most 255 times 32,768.
+-- `step::sound::scaled` meets its contract: the product is at most 255 times 32,768.
 -- Assumes nothing.
 use mathlib.Core.Path.{_≡_, refl}
 use Prim.Native.Nat.{ℕ, _≤_, _^_}
@@ -13,8 +13,8 @@ use mir.ValLaws.{toZ-pos}
 use Rattle.integer.proofs.View.{abs-fits}
 use Rattle.integer.proofs.Ring.{abs-*}
 use Rattle.step.proofs.Machine.{back, kept}
-use Rattle.step.proofs.scaled.Statement.{statement}
-use Rattle.step.proofs.scaled.Tie as tie
+use Rattle.step.proofs.sound.scaled.Statement.{statement}
+use Rattle.step.proofs.sound.scaled.Tie as tie
 
 module _ (s : tie.Start) where
   abbrev a : ℕ

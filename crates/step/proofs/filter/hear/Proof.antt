@@ -1,8 +1,8 @@
--- `step::hear` meets its contract: a tuned filter is fed, gives its output, and is tuned afterwards.
+-- `step::filter::hear` meets its contract: a tuned filter is fed, gives its output, and is tuned afterwards.
 -- Assumes nothing.
 use Rattle.step.proofs.Filters.{tuned-fed, tuned-hears}
-use Rattle.step.proofs.hear.Statement.{statement}
-use Rattle.step.proofs.hear.Tie as tie
+use Rattle.step.proofs.filter.hear.Statement.{statement}
+use Rattle.step.proofs.filter.hear.Tie as tie
 
 allpass-requires : tie.Need-allpass-requires
 allpass-requires c κs = let i = c .before .before .before .pre in tuned-fed (i .0) (i .1)

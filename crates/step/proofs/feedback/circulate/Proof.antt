@@ -1,4 +1,4 @@
--- `step::circulate` meets its contract: the sample read is s(n − L), and the one stored is s(n).
+-- `step::feedback::circulate` meets its contract: the sample read is s(n − L), and the one stored is s(n).
 -- Assumes nothing.
 use mathlib.Core.Path.{sym, ap, subst, _∙_}
 use mathlib.Core.List.{_∷_}
@@ -11,8 +11,8 @@ use Rattle.integer.proofs.Rounding.{clip-abs}
 use Rattle.line.specs.Ring.{ring}
 use Rattle.parts.proofs.Within.{read-within}
 use Rattle.step.specs.Sample.{Hears}
-use Rattle.step.proofs.circulate.Statement.{statement}
-use Rattle.step.proofs.circulate.Tie as tie
+use Rattle.step.proofs.feedback.circulate.Statement.{statement}
+use Rattle.step.proofs.feedback.circulate.Tie as tie
 
 cast-read : tie.Need-cast-read
 cast-read c = search needs

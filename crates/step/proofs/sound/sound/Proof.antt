@@ -1,4 +1,4 @@
--- `step::sound` meets its contract: by whether no step, one step or more are left.
+-- `step::sound::sound` meets its contract: by whether no step, one step or more are left.
 -- Assumes nothing.
 use mathlib.Core.Path.{_≡_, refl, ap, _∙_}
 use Prim.Native.Nat.{_<_}
@@ -13,8 +13,8 @@ use Rattle.rule.specs.Voice.{noise, spent}
 use Rattle.parts.specs.declared.Pluck.{Pluck}
 use Rattle.parts.specs.Struct.{pluckOf}
 use Rattle.step.proofs.Silent.{sounds-none}
-use Rattle.step.proofs.sound.Statement.{statement}
-use Rattle.step.proofs.sound.Tie as tie
+use Rattle.step.proofs.sound.sound.Statement.{statement}
+use Rattle.step.proofs.sound.sound.Tie as tie
 
 returns : tie.Need-returns
 returns c = sounds-none (c .before .before .pre) (c .if1 .taken)

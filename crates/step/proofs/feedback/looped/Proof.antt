@@ -1,4 +1,4 @@
--- `step::looped` meets its contract: 65,535 times 2M and 65,536 are below 2^41.
+-- `step::feedback::looped` meets its contract: 65,535 times 2M and 65,536 are below 2^41.
 -- Assumes nothing.
 use mathlib.Core.Path.{_≡_}
 use Prim.Native.Nat.{ℕ, _*_, _≤_, _^_}
@@ -15,8 +15,8 @@ use Rattle.integer.proofs.View.{abs-fits, absv, near}
 use Rattle.integer.proofs.Ring.{abs-*, abs-+}
 use Rattle.integer.proofs.Rounding.{floorv}
 use Rattle.step.proofs.Machine.{back, kept, terms}
-use Rattle.step.proofs.looped.Statement.{statement}
-use Rattle.step.proofs.looped.Tie as tie
+use Rattle.step.proofs.feedback.looped.Statement.{statement}
+use Rattle.step.proofs.feedback.looped.Tie as tie
 
 module _ (s : tie.Start) where
   abbrev G : ℕ
