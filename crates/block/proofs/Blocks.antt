@@ -1,7 +1,7 @@
 -- A block's number, what a refused call leaves, and what an accepted block does, in the contracts' terms.
 -- Assumes nothing.
-use mathlib.Core.Path.{_≡_, refl, sym, ap, _∙_}
-use mathlib.Core.Bool.{Bool, true, false, cond}
+use mathlib.Core.Path.{_≡_, refl, sym, _∙_}
+use mathlib.Core.Bool.{false}
 use mathlib.Core.List.{List, [], _∷_}
 use Prim.Native.Nat.{ℕ, _≤_}
 use native.Mathlib.Omega.{arith}
@@ -15,7 +15,7 @@ use Rattle.refusal.specs.Limits.{Limit}
 use Rattle.refusal.proofs.Returned.{here, past, kept-is, is-met}
 use Rattle.rule.specs.Voice.{Voice}
 use Rattle.rule.specs.Calls.{Call, block, number, done}
-use Rattle.rule.specs.State.{State, blockAfter, blockOut, put}
+use Rattle.rule.specs.State.{blockAfter, blockOut, put}
 use Rattle.parts.specs.declared.Head.{Head}
 use Rattle.parts.specs.Struct.{voiceOf, stateOf}
 use Rattle.parts.specs.Valid.{Valid}

@@ -1,13 +1,13 @@
 -- Laws of the integers that `lib.IntN` lacks: products, sizes, orders and distances, each by `View`.
 -- Assumes nothing.
-use mathlib.Core.Path.{_≡_, refl, sym, ap, _∙_}
-use Prim.Native.Nat.{ℕ, zero, suc, _+_, _*_, _≤_, _<_}
+use mathlib.Core.Path.{_≡_, refl, ap}
+use Prim.Native.Nat.{ℕ, zero, suc, _+_, _*_, _≤_}
 use native.Mathlib.Omega.{arith}
 use native.Mathlib.Nat.{mul-le-mul-left}
 use lib.IntN.{ℤ, pos, negsuc, negℤ, natAbs, _+ℤ_, _-ℤ_, _*ℤ_}
-use lib.Signed.{_≤ℤ_, _<ℤ_}
+use lib.Signed.{_≤ℤ_}
 use Rattle.integer.specs.Parts.{up, dn}
-use Rattle.integer.proofs.View.{+v, -v, *v, negv, absv, near, Zs}
+use Rattle.integer.proofs.View.{+v, -v, *v, absv, near, Zs}
 
 -- an equation times a factor, which `omega` does not make by itself
 abbrev pub times : {x y : ℕ} (k : ℕ) → x ≡ y → x * k ≡ y * k

@@ -7,7 +7,7 @@ use Prim.Native.Nat.{ℕ, zero, suc, _+_, _*_, _-_, _^_, _≤_, _<_}
 use native.Mathlib.Omega.{arith}
 use lib.IntN.{ℤ, pos, negsuc, negℤ, natAbs, subℕ, _+ℤ_, _-ℤ_, _*ℤ_}
 use lib.Signed.{mag, _≤ℤ_, _<ℤ_, leZ, ltZ, ltZ-yes, ltZ-no, leZ-yes, natAbs-le}
-use lib.Dec.{T, ltb, leb, ltb→lt, lt→ltb, leb→le, le→leb}
+use lib.Dec.{T, ltb, ltb→lt, lt→ltb, leb→le, le→leb}
 use borrow.Author.Tests.{ltb-true, ltb-false, leb-false}
 use mir.Syntax.{Width}
 use mir.Val.{SFits, hbits, toZ, ofZ}

@@ -1,6 +1,6 @@
 -- What a sample makes of a head that a loop carries on: a step of the rule, and a head of the same form.
 -- Assumes nothing.
-use mathlib.Core.Path.{_≡_, refl, sym, ap, subst, _∙_}
+use mathlib.Core.Path.{_≡_, refl, sym, ap, _∙_}
 use mathlib.Core.Bool.{Bool, true, false, cond, false≢true}
 use mathlib.Core.List.{List}
 use Prim.Native.Nat.{ℕ, _+_, _<_}
@@ -103,3 +103,7 @@ due-self {N} {e} {t} {k} h i j w z fewer =
     due-later (carriedOf h f (h .last) (h .at)) (anewOf N e (e .state)) k (omega arith)
     ∙ ap (λ (f : Filter). withOf h f (Announced (anewOf N e (e .state)) k)) (anew-self (h .filter) i)
     ∙ ap (λ (x : Waiting). withOf h (h .filter) x) (waits ∙ sym w)
+
+pub due-as : (h : Head) (y : Value) (at : ℕ) {f g d e : Filter} {t u : ℕ} → f ≡ g → d ≡ e → t ≡ u
+    → dueOf (carriedOf h f y at) d t ≡ dueOf (carriedOf h g y at) e u
+due-as h y at p q r = cc (p, q, r)

@@ -2,16 +2,14 @@
 -- Definitions alone. Assumes nothing.
 use mathlib.Core.Path.{_≡_}
 use mathlib.Core.Bool.{cond}
-use mathlib.Core.List.{List, [], _∷_, _++_}
-use Prim.Native.Nat.{ℕ, _≤_}
-use lib.Dec.{T, eqb}
+use mathlib.Core.List.{List}
+use Prim.Native.Nat.{ℕ}
+use lib.Dec.{eqb}
 use lib.IntN.{ℤ}
-use Rattle.refusal.specs.Limits.{Limit, refusal}
-use Rattle.refusal.specs.Orders.{Takes}
-use Rattle.refusal.specs.Returned.{numbered}
+use Rattle.refusal.specs.Limits.{refusal}
 use Rattle.allpass.specs.Allpass.{rest}
-use Rattle.rule.specs.Calls.{Call, Opening, openLimits, changeLimits, number}
-use Rattle.rule.specs.State.{call, put, fresh}
+use Rattle.rule.specs.Calls.{Call, number}
+use Rattle.rule.specs.State.{call, put}
 use Rattle.parts.specs.declared.Filter.{Filter}
 use Rattle.parts.specs.declared.Head.{Head}
 use Rattle.parts.specs.declared.Answer.{Answer}

@@ -1,10 +1,10 @@
 -- Demand 1 of a call with the tests ls: each number is returned if and only if its condition holds and no
 -- earlier one does. proofs/Returned.antt has it of every list of different numbers above 0. Assumes nothing.
 use mathlib.Core.Path.{_≡_}
-use mathlib.Core.Bool.{Bool, true, false, not, _&&_}
+use mathlib.Core.Bool.{Bool, true, not, _&&_}
 use mathlib.Core.Logic.{_↔_}
 use mathlib.Core.List.{List, [], _∷_, _++_}
-use Prim.Native.Nat.{ℕ, _≤_, _<_}
+use Prim.Native.Nat.{ℕ, _≤_}
 use lib.Dec.{T, ltb, eqb}
 use Rattle.refusal.specs.Limits.{Limit, refusal}
 

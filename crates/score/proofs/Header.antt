@@ -1,6 +1,6 @@
 -- The header of a score: what it is refused by, and what the run is by that.
 -- Assumes nothing.
-use mathlib.Core.Path.{_≡_, refl, sym, ap, subst, _∙_}
+use mathlib.Core.Path.{_≡_, refl, sym, ap, _∙_}
 use mathlib.Core.List.{List, []}
 use Prim.Native.Nat.{ℕ, _≤_, _<_}
 use native.Mathlib.Omega.{arith}
@@ -10,12 +10,12 @@ use lib.ListN.{length, getD, drop}
 use Rattle.refusal.specs.Limits.{Limit, refusal}
 use Rattle.refusal.specs.Returned.{Returned}
 use Rattle.refusal.proofs.Returned.{here, past, kept-is, is-met, returned}
-use Rattle.rule.specs.Calls.{Opening, openLimits}
-use Rattle.rule.specs.State.{State, fresh}
+use Rattle.rule.specs.Calls.{openLimits}
+use Rattle.rule.specs.State.{fresh}
 use Rattle.score.specs.declared.Played.{Played}
 use Rattle.record.specs.Record.{word}
-use Rattle.score.specs.Run.{Outcome, ends, allRecords, opening, headerLimits, run}
-use Rattle.score.specs.Played.{Plays, PlaysAll, Runs}
+use Rattle.score.specs.Run.{ends, opening, headerLimits, run}
+use Rattle.score.specs.Played.{PlaysAll, Runs}
 use Rattle.score.proofs.Playing.{plays-as}
 
 -- demand 1 of a header: 14, then Open's

@@ -1,7 +1,7 @@
 -- A record that is followed: its samples over the output, and the run that ends with it or goes on.
 -- Assumes nothing.
-use mathlib.Core.Path.{_≡_, refl, sym, ap, subst, _∙_}
-use mathlib.Core.List.{List, [], _∷_, _++_, append-assoc}
+use mathlib.Core.Path.{_≡_, sym, ap, _∙_}
+use mathlib.Core.List.{List, _++_, append-assoc}
 use Prim.Native.Nat.{ℕ, _+_, _-_, _≤_, _<_}
 use native.Mathlib.Omega.{arith}
 use borrow.Rule.Slice.PartMut.{putMid}
@@ -10,10 +10,10 @@ use lib.ListN.{length, take, drop, replicate, length-drop, length-append, length
 use lib.Seq.{length-take-le, drop-drop, drop-append-seam, take-append-seam}
 use Rattle.refusal.specs.Limits.{refusal}
 use Rattle.rule.specs.Calls.{Call}
-use Rattle.rule.specs.State.{State, from, puts, blockOut}
+use Rattle.rule.specs.State.{State, from, puts}
 use Rattle.record.specs.Record.{mapOf, bytes, fields, rest}
 use Rattle.follow.specs.Follow.{value, result, recordCalls}
-use Rattle.score.specs.Run.{Outcome, ends, joined, playLimits, records, allRecords}
+use Rattle.score.specs.Run.{ends, joined, playLimits, records, allRecords}
 use Rattle.score.specs.Played.{over, Plays}
 use Rattle.record.proofs.Reading.{taken-rest}
 use Rattle.follow.proofs.Sequence.{from-append, puts-append}

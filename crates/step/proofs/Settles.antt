@@ -8,7 +8,6 @@ use lib.IntN.{ℤ}
 use Rattle.rule.specs.Voice as Rule
 use Rattle.parts.specs.declared.Tuning.{Tuning}
 use Rattle.parts.specs.declared.Filter.{Filter}
-use Rattle.parts.specs.declared.Waiting.{Waiting}
 use Rattle.parts.specs.declared.Waiting.the-variants.{Idle, Announced}
 use Rattle.parts.specs.declared.Head.{Head}
 use Rattle.parts.specs.Struct.{withOf}

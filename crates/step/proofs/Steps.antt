@@ -5,7 +5,7 @@ use mathlib.Core.List.{List, _∷_}
 use Prim.Native.Nat.{ℕ, _≤_}
 use lib.IntN.{ℤ, pos, _+ℤ_, _*ℤ_}
 use lib.ListN.{take}
-use Rattle.integer.specs.Rounding.{M, clip, floor}
+use Rattle.integer.specs.Rounding.{M, floor}
 use Rattle.integer.proofs.Rounding.{clip-abs}
 use Rattle.allpass.specs.Bounds.{Within, more}
 use Rattle.line.specs.Ring.{ring}

@@ -1,8 +1,5 @@
 -- `follow::act` meets its contract: three parts, one after the other.
 -- Assumes nothing.
-use mathlib.Core.List.{List}
-use Prim.Native.Nat.{ℕ}
-use lib.IntN.{ℤ}
 use Rattle.parts.specs.Struct.{stateOf}
 use Rattle.follow.specs.Follow.{lossCalls, changeCalls, pluckCalls, then, actCalls}
 use Rattle.follow.specs.Does.{Does}

@@ -1,6 +1,6 @@
 -- `follow::follow` meets its contract: the wait as a block of zeros, and then the rest of the record.
 -- Assumes nothing.
-use mathlib.Core.Path.{_≡_, refl, sym, ap, subst, _∙_}
+use mathlib.Core.Path.{refl, sym, ap, subst, _∙_}
 use mathlib.Core.List.{List}
 use Prim.Native.Nat.{ℕ, _≤_}
 use lib.IntN.{ℤ, pos}
@@ -9,7 +9,7 @@ use Rattle.integer.specs.Rounding.{M}
 use Rattle.samples.specs.Samples.{loudest}
 use Rattle.rule.specs.State.{blockOut}
 use Rattle.parts.specs.Struct.{stateOf}
-use Rattle.follow.specs.Follow.{value, waitCalls, actCalls, recordCalls}
+use Rattle.follow.specs.Follow.{waitCalls, actCalls, recordCalls}
 use Rattle.follow.proofs.Following.{does-then}
 use Rattle.follow.proofs.Waits.{zeros-quiet, wait-does, record-puts}
 use borrow.Author.Needs.{needs}

@@ -1,10 +1,10 @@
 -- `follow::pluck` meets its contract: no call, or that of the pluck.
 -- Assumes nothing.
-use mathlib.Core.Path.{_≡_, sym, ap, _∙_}
+use mathlib.Core.Path.{sym, ap, _∙_}
 use mathlib.Core.Bool.{cond}
 use Prim.Native.Nat.{ℕ}
 use lib.Dec.{eqb}
-use Rattle.rule.specs.Calls.{Call, pluck}
+use Rattle.rule.specs.Calls.{pluck}
 use Rattle.parts.specs.Struct.{stateOf}
 use Rattle.parts.proofs.Called.{on}
 use Rattle.follow.specs.Follow.{value, stands, countOf}

@@ -1,7 +1,6 @@
 -- `follow::set_loss` meets its contract: no call, or that of the loss.
 -- Assumes nothing.
-use mathlib.Core.Path.{_≡_, sym, _∙_}
-use Prim.Native.Nat.{ℕ}
+use mathlib.Core.Path.{sym, _∙_}
 use Rattle.rule.specs.Calls.{loss}
 use Rattle.parts.proofs.Called.{on}
 use Rattle.follow.specs.Follow.{value, stands}

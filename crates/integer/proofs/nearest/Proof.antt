@@ -1,16 +1,16 @@
 -- `integer::nearest` meets its contract: the floor of (2 p + q) / (2 q).
 -- Assumes nothing.
 use mathlib.Core.Path.{_≡_, refl}
-use Prim.Native.Nat.{ℕ, _*_, _<_, _≤_, _^_}
+use Prim.Native.Nat.{ℕ, _*_}
 use native.Mathlib.Omega.{arith}
 use borrow.Author.Needs.{needs}
-use lib.IntN.{ℤ, pos, natAbs, _+ℤ_, _*ℤ_}
+use lib.IntN.{ℤ, pos, _+ℤ_, _*ℤ_}
 use mir.Syntax.{w64}
 use mir.Val.{SFits, toZ, ofZ}
 use mir.Facts.{toZ-ofZ}
 use mir.ValLaws.{toZ-pos}
 use Rattle.integer.specs.Rounding.{nearest}
-use Rattle.integer.proofs.View.{+v, *v, absv, read, abs-fits}
+use Rattle.integer.proofs.View.{read, abs-fits}
 use Rattle.integer.proofs.Ring.{abs-*, abs-+}
 use Rattle.integer.proofs.nearest.Statement.{statement}
 use Rattle.integer.proofs.nearest.Tie as tie

@@ -1,6 +1,6 @@
 -- `jivaszte::jivaszte_record` meets its contract: a record's bytes are those that the rest lacks.
 -- Assumes nothing.
-use mathlib.Core.Path.{_≡_, ap, _∙_}
+use mathlib.Core.Path.{ap, _∙_}
 use mathlib.Core.List.{List}
 use Prim.Native.Nat.{ℕ, _-_}
 use native.Mathlib.Omega.{arith}

@@ -1,14 +1,13 @@
 -- `loops::leading` meets its contract: the invariant is `Rendered`, of the head carried on with its change.
 -- Assumes nothing.
 use mathlib.Core.Path.{_≡_, sym, ap, subst, _∙_}
-use mathlib.Core.List.{List}
-use Prim.Native.Nat.{ℕ, _+_, _-_, _≤_, _<_}
+use Prim.Native.Nat.{_+_, _-_, _≤_}
 use native.Mathlib.Omega.{arith}
 use borrow.Author.Needs.{needs}
-use lib.IntN.{ℤ, natAbs}
+use lib.IntN.{natAbs}
 use lib.ListN.{length}
 use Rattle.integer.specs.Rounding.{M}
-use Rattle.rule.specs.State.{State, step, back}
+use Rattle.rule.specs.State.{State, back}
 use Rattle.parts.specs.declared.Filter.{Filter}
 use Rattle.parts.specs.declared.Waiting.{Waiting}
 use Rattle.parts.specs.declared.Waiting.the-variants.{Announced}
@@ -19,16 +18,15 @@ use Rattle.parts.proofs.Within.{read-within}
 use Rattle.line.specs.Ring.{ring}
 use Rattle.step.specs.Sample.{Moved}
 use Rattle.loops.specs.Carried.{anewOf, carriedOf, dueOf}
-use Rattle.loops.specs.Rendered.{Rendered}
-use Rattle.loops.proofs.Rendered.{begun, sample, rendered}
-use Rattle.loops.proofs.Carrying.{as-anew, led-steps, due-later, due-self}
+use Rattle.loops.proofs.Passes.{Reached, started, reads, more, ended}
+use Rattle.loops.proofs.Carrying.{as-anew, led-steps, due-later, due-self, due-as}
 use Rattle.loops.proofs.leading.Statement.{statement}
 use Rattle.loops.proofs.leading.Tie as tie
 
 abbrev Inv-loop : tie.InvT-loop
 Inv-loop line₀ order h e taken buffer₀ v₀ u₀ last₀ at₀ i₀ line buffer v u last at i =
     let d = dueOf (carriedOf h (anewOf order (h .filter) v) last at) (anewOf order e u) (taken + i) in
-    Rendered buffer₀ (stateOf h line₀) buffer (stateOf d line) i × Valid d line
+    Reached buffer₀ (stateOf h line₀) buffer d line i
 
 abbrev μ-loop : tie.MeasureT-loop
 μ-loop line₀ order h e taken buffer₀ v₀ u₀ last₀ at₀ i₀ line buffer v u last at i = length buffer₀ - i
@@ -39,18 +37,12 @@ loop-holds c =
     let h = s .args .h in
     let e = s .args .e in
     let t = s .args .taken in
-    let l = s .args .line .now in
     let w : Waits (h .filter .tuning .order) (h .advance) e t
     = subst (λ (w : Waiting). Waiting-valid (h .filter .tuning .order) (h .advance) w) (s .pre .1 .1)
     (s .pre .0 .0 .fit .waiting) in
     let z : t + 0 ≡ t = omega arith in
-    let same = due-self h (s .pre .1 .0) (s .pre .1 .0 ∙ sym (w .same)) (s .pre .1 .1) z (w .fewer) in (
-      subst (λ (k : Head). Rendered (s .args .buffer .now) (stateOf h l) (s .args .buffer .now)
-          (stateOf k l) 0)
-          (sym same)
-          (begun (s .args .buffer .now) (stateOf h l) (s .pre .0 .1)),
-      subst (λ (k : Head). Valid k l) (sym same) (s .pre .0 .0),
-    )
+    started (due-self h (s .pre .1 .0) (s .pre .1 .0 ∙ sym (w .same)) (s .pre .1 .1) z (w .fewer)) (s .pre .0 .1)
+    (s .pre .0 .0)
 
 -- a pass of the loop, once its sample is read: the change still waits
 module _ (c : tie.After-read Inv-loop μ-loop) where
@@ -80,20 +72,14 @@ module _ (c : tie.After-read Inv-loop μ-loop) where
       due-later quiet eliminator (start .args .taken + pass .loop .i)
       (omega (arith, start .pre .0 .2, pass .loop .inv .0 .long, c .before .before .loop-test .taken))
 
-  so-far : Rendered (start .args .buffer .now) begins (pass .loop .buffer)
-      (stateOf head (pass .loop .line)) (pass .loop .i)
-  so-far = rw waits at (pass .loop .inv .0)
+  so-far : Reached (start .args .buffer .now) begins (pass .loop .buffer) head (pass .loop .line) (pass .loop .i)
+  so-far = rw waits at (pass .loop .inv)
 
   valid : Valid head (pass .loop .line)
-  valid = rw waits at (pass .loop .inv .1)
+  valid = so-far .1
 
   small : natAbs (c .read .result .n) ≤ M
-  small =
-      subst (λ (z : ℤ). natAbs z ≤ M) (sym (c .read .ensures))
-      (sample (start .args .buffer .now) begins (pass .loop .buffer) (stateOf head (pass .loop .line))
-      (pass .loop .i)
-      so-far
-      (c .before .before .loop-test .taken))
+  small = reads so-far (c .before .before .loop-test .taken) (c .read .ensures)
 
 read-requires : tie.Need-read-requires Inv-loop μ-loop
 read-requires c κs = search needs
@@ -155,39 +141,20 @@ loop-again c =
     let l = pass r .loop in
     let s = start r in
     let h = s .args .h in
-    let xs = s .args .buffer .now in
     let wrote = c .before .before .before .before .before in
     let made = rw (k .before .before .anew .ensures) at (k .circulate .ensures) in
     let n = c .before .before .moved .result in
+    let y = k .circulate .result .y in
+    let at = k .circulate .result .at in
     let m : Moved (eliminator r) (back (ring (l .at) (l .line)) (s .args .e .tuning .length)) n
     = rw (c .before .before .before .anew2 .ensures, g .read2 .ensures) at
     (c .before .before .moved .ensures) in
-    let e = led-steps h (s .pre .1 .2) made m (valid r) in
-    let f = k .circulate .result .filter in
-    let y = k .circulate .result .y in
-    let at = k .circulate .result .at in
-    let w = stateOf (dueOf (carriedOf h f y at) n ((s .args .taken + l .i) + 1)) (k .circulate .last .0) in
     let same-filter = as-anew (h .filter) (valid r .fit .filter) (made .hears .moved .tuned)
     (made .hears .moved .tuning) in
     let same-next = as-anew (s .args .e) (valid r .fit .waiting .tuned) (m .tuned) (m .tuning) in
     let z : (s .args .taken + l .i) + 1 ≡ s .args .taken + (l .i + 1) = omega arith in
-    let same =
-    ap (λ (f : Filter). dueOf (carriedOf h f y at) n ((s .args .taken + l .i) + 1)) same-filter
-    ∙ ap (λ (n : Filter). dueOf (carriedOf h (anewOf (s .args .order) (h .filter) (f .state)) y at) n
-    ((s .args .taken + l .i) + 1)) same-next
-    ∙ ap (λ (t : ℕ). dueOf (carriedOf h (anewOf (s .args .order) (h .filter) (f .state)) y at)
-    (anewOf (s .args .order) (s .args .e) (n .state)) t) z in
-    let i = e .state ∙ ap (λ (x : ℤ). step (stateOf (head r) (l .line)) x) (r .read .ensures) in
-    subst
-    (λ (d : Head). Rendered xs (begins r) (wrote .write .last .0) (stateOf d (k .circulate .last .0))
-    (l .i + 1)
-    × Valid d (k .circulate .last .0))
-    same (
-      subst (λ (b : List ℤ). Rendered xs (begins r) b w (l .i + 1)) (sym (wrote .write .ensures))
-          (rendered xs (begins r) (l .buffer) (stateOf (head r) (l .line)) (l .i) (so-far r)
-          (r .before .before .loop-test .taken) w (y .n) i (e .y)),
-      e .valid,
-    )
+    more (so-far r) (r .before .before .loop-test .taken) (r .read .ensures)
+    (led-steps h (s .pre .1 .2) made m (valid r)) (wrote .write .ensures) (due-as h y at same-filter same-next z)
 
 anew-requires-3 : tie.Need-anew-requires-3 Inv-loop μ-loop
 anew-requires-3 c κs = search needs
@@ -206,21 +173,13 @@ returns c =
     let l = c .before .before .before .before .loop in
     let s = c .before .before .before .before .before .before .before .before in
     let h = s .args .h in
-    let b = stateOf h (s .args .line .now) in
     let i = l .inv .0 in
     let n = length (s .args .buffer .now) in
-    let end : l .i ≡ n = omega (arith, i .long, i .within, c .before .before .before .loop-test .left) in
-    let same =
-    ap (λ (k : Head). dueOf k (c .anew4 .result) (s .args .taken + n))
-    (c .before .carried .ensures ∙ ap (λ (f : Filter). carriedOf h f (l .last) (l .at))
-    (c .before .before .anew3 .ensures))
-    ∙ ap (λ (e : Filter). dueOf (carriedOf h (anewOf (s .args .order) (h .filter) (l .v)) (l .last)
-    (l .at)) e (s .args .taken + n))
-    (c .anew4 .ensures) in
-    subst
-    (λ (k : Head). Rendered (s .args .buffer .now) b (l .buffer) (stateOf k (l .line)) n × Valid k (l .line))
-    (sym same)
-    (rw end at (l .inv))
+    let left = c .before .before .before .loop-test .left in
+    let end : s .args .taken + n ≡ s .args .taken + l .i = omega (arith, i .long, i .within) in
+    ended (l .inv) left
+    (ap (λ (k : Head). dueOf k (c .anew4 .result) (s .args .taken + n)) (c .before .carried .ensures)
+    ∙ due-as h (l .last) (l .at) (c .before .before .anew3 .ensures) (c .anew4 .ensures) end)
 
 pub leading-spec : {M : Type 1} → statement M
 leading-spec =

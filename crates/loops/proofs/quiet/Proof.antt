@@ -1,21 +1,18 @@
 -- `loops::quiet` meets its contract: the invariant is `Rendered`, of the head that is carried on.
 -- Assumes nothing.
-use mathlib.Core.Path.{_≡_, refl, sym, ap, subst, _∙_}
-use mathlib.Core.List.{List}
-use Prim.Native.Nat.{ℕ, _+_, _-_, _≤_}
+use mathlib.Core.Path.{sym, ap, subst, _∙_}
+use Prim.Native.Nat.{_-_, _≤_}
 use native.Mathlib.Omega.{arith}
 use borrow.Author.Needs.{needs}
-use lib.IntN.{ℤ, natAbs}
+use lib.IntN.{natAbs}
 use lib.ListN.{length}
 use Rattle.integer.specs.Rounding.{M}
-use Rattle.rule.specs.State.{State, step}
 use Rattle.parts.specs.declared.Filter.{Filter}
 use Rattle.parts.specs.declared.Head.{Head}
 use Rattle.parts.specs.Struct.{stateOf}
-use Rattle.parts.specs.Valid.{Tuned, Valid}
+use Rattle.parts.specs.Valid.{Tuned}
 use Rattle.loops.specs.Carried.{anewOf, carriedOf}
-use Rattle.loops.specs.Rendered.{Rendered}
-use Rattle.loops.proofs.Rendered.{begun, sample, rendered}
+use Rattle.loops.proofs.Passes.{Reached, started, reads, more, ended}
 use Rattle.loops.proofs.Carrying.{as-anew, anew-self, carried-self, quiet-steps}
 use Rattle.loops.proofs.quiet.Statement.{statement}
 use Rattle.loops.proofs.quiet.Tie as tie
@@ -23,7 +20,7 @@ use Rattle.loops.proofs.quiet.Tie as tie
 abbrev Inv-loop : tie.InvT-loop
 Inv-loop line₀ order h buffer₀ v₀ last₀ at₀ i₀ line buffer v last at i =
     let c = carriedOf h (anewOf order (h .filter) v) last at in
-    Rendered buffer₀ (stateOf h line₀) buffer (stateOf c line) i × Valid c line
+    Reached buffer₀ (stateOf h line₀) buffer c line i
 
 abbrev μ-loop : tie.MeasureT-loop
 μ-loop line₀ order h buffer₀ v₀ last₀ at₀ i₀ line buffer v last at i = length buffer₀ - i
@@ -32,14 +29,7 @@ loop-holds : tie.Need-loop-holds Inv-loop μ-loop
 loop-holds c =
     let s = c .before .before in
     let h = s .args .h in
-    let l = s .args .line .now in
-    let same = carried-self h (anew-self (h .filter) (s .pre .1 .0)) (s .pre .1 .1) in (
-      subst (λ (k : Head). Rendered (s .args .buffer .now) (stateOf h l) (s .args .buffer .now)
-          (stateOf k l) 0)
-          (sym same)
-          (begun (s .args .buffer .now) (stateOf h l) (s .pre .0 .1)),
-      subst (λ (k : Head). Valid k l) (sym same) (s .pre .0 .0),
-    )
+    started (carried-self h (anew-self (h .filter) (s .pre .1 .0)) (s .pre .1 .1)) (s .pre .0 .1) (s .pre .0 .0)
 
 -- a pass of the loop, once its sample is read
 module _ (c : tie.After-read Inv-loop μ-loop) where
@@ -53,16 +43,8 @@ module _ (c : tie.After-read Inv-loop μ-loop) where
   head = carriedOf (start .args .h) (anewOf (start .args .order) (start .args .h .filter) (pass .loop .v))
       (pass .loop .last) (pass .loop .at)
 
-  abbrev begins : State
-  begins = stateOf (start .args .h) (start .args .line .now)
-
-  quiet-sample : natAbs (c .read .result .n) ≤ M
-  quiet-sample =
-      subst (λ (z : ℤ). natAbs z ≤ M) (sym (c .read .ensures))
-      (sample (start .args .buffer .now) begins (pass .loop .buffer) (stateOf head (pass .loop .line))
-      (pass .loop .i)
-      (pass .loop .inv .0)
-      (c .before .before .loop-test .taken))
+  small : natAbs (c .read .result .n) ≤ M
+  small = reads (pass .loop .inv) (c .before .before .loop-test .taken) (c .read .ensures)
 
 read-requires : tie.Need-read-requires Inv-loop μ-loop
 read-requires c κs = search needs
@@ -75,7 +57,7 @@ circulate-requires c κs =
     let r = c .before .before in
     let v = pass r .loop .inv .1 in
     let f = subst (λ (f : Filter). Tuned f) (sym (c .before .anew .ensures)) (v .fit .filter) in
-    ((f, v .fit .loss, v .fit .last, v .fit .at, v .line), (quiet-sample r, omega arith))
+    ((f, v .fit .loss, v .fit .last, v .fit .at, v .line), (small r, omega arith))
 
 write-requires : tie.Need-write-requires Inv-loop μ-loop
 write-requires c κs =
@@ -99,27 +81,14 @@ loop-again c =
     let r = k .before .before .before in
     let l = pass r .loop in
     let h = start r .args .h in
-    let N = start r .args .order in
-    let xs = start r .args .buffer .now in
     let made = rw (k .before .before .anew .ensures) at (k .circulate .ensures) in
-    let e = quiet-steps h (start r .pre .1 .2) made (l .inv .1) in
-    let g = k .circulate .result .filter in
     let y = k .circulate .result .y in
     let at = k .circulate .result .at in
     let same = as-anew (h .filter) (l .inv .1 .fit .filter) (made .hears .moved .tuned)
     (made .hears .moved .tuning) in
-    let w = stateOf (carriedOf h g y at) (k .circulate .last .0) in
-    let n = e .state ∙ ap (λ (x : ℤ). step (stateOf (head r) (l .line)) x) (r .read .ensures) in
-    subst
-    (λ (f : Filter). Rendered xs (begins r) (c .before .before .write .last .0)
-    (stateOf (carriedOf h f y at) (k .circulate .last .0)) (l .i + 1)
-    × Valid (carriedOf h f y at) (k .circulate .last .0))
-    same (
-      subst (λ (b : List ℤ). Rendered xs (begins r) b w (l .i + 1)) (sym (c .before .before .write .ensures))
-          (rendered xs (begins r) (l .buffer) (stateOf (head r) (l .line)) (l .i) (l .inv .0)
-          (r .before .before .loop-test .taken) w (y .n) n (e .y)),
-      e .valid,
-    )
+    more (l .inv) (r .before .before .loop-test .taken) (r .read .ensures)
+    (quiet-steps h (start r .pre .1 .2) made (l .inv .1)) (c .before .before .write .ensures)
+    (ap (λ (f : Filter). carriedOf h f y at) same)
 
 anew-requires-2 : tie.Need-anew-requires-2 Inv-loop μ-loop
 anew-requires-2 c κs = search needs
@@ -133,20 +102,9 @@ same-length c = c .before .before .before .loop .inv .0 .long
 returns : tie.Need-returns Inv-loop μ-loop
 returns c =
     let l = c .before .before .before .loop in
-    let s = c .before .before .before .before .before .before in
-    let h = s .args .h in
-    let b = stateOf h (s .args .line .now) in
-    let i = l .inv .0 in
-    let end : l .i ≡ length (s .args .buffer .now)
-    = omega (arith, i .long, i .within, c .before .before .loop-test .left) in
-    let same =
-    c .carried .ensures ∙ ap (λ (f : Filter). carriedOf h f (l .last) (l .at)) (c .before .anew2 .ensures) in
-    subst
-    (λ (k : Head). Rendered (s .args .buffer .now) b (l .buffer) (stateOf k (l .line))
-    (length (s .args .buffer .now))
-    × Valid k (l .line))
-    (sym same)
-    (rw end at i, l .inv .1)
+    let h = c .before .before .before .before .before .before .args .h in
+    ended (l .inv) (c .before .before .loop-test .left)
+    (c .carried .ensures ∙ ap (λ (f : Filter). carriedOf h f (l .last) (l .at)) (c .before .anew2 .ensures))
 
 pub quiet-spec : {M : Type 1} → statement M
 quiet-spec =

@@ -1,6 +1,6 @@
 -- `record::field` meets its contract: a field that is absent is 0.
 -- Assumes nothing.
-use mathlib.Core.Path.{_≡_, refl, sym, ap, _∙_}
+use mathlib.Core.Path.{_≡_, refl, sym, _∙_}
 use Prim.Native.Nat.{ℕ, zero, suc}
 use Rattle.record.specs.Record.{present}
 use borrow.Author.Needs.{needs}

@@ -1,54 +1,43 @@
 -- `render::sounding` meets its contract: the invariant is `Rendered`, with a voice that stays valid.
 -- Assumes nothing.
-use mathlib.Core.Path.{_≡_, sym, ap, subst, _∙_}
-use mathlib.Core.List.{List}
-use Prim.Native.Nat.{ℕ, _+_, _-_, _≤_, _<_}
+use mathlib.Core.Path.{_≡_, refl}
+use Prim.Native.Nat.{_+_, _-_}
 use native.Mathlib.Omega.{arith}
 use borrow.Author.Needs.{needs}
-use lib.IntN.{ℤ, pos, natAbs}
+use lib.IntN.{pos}
 use lib.ListN.{length, getD}
 use Rattle.integer.specs.Rounding.{M}
-use Rattle.rule.specs.State.{State, step}
+use Rattle.rule.specs.State.{step}
 use Rattle.parts.specs.Struct.{stateOf}
-use Rattle.parts.specs.Valid.{Valid}
-use Rattle.loops.specs.Rendered.{Rendered}
-use Rattle.loops.proofs.Rendered.{begun, sample, rendered}
+use Rattle.loops.proofs.Passes.{Reached, started, reads, more}
 use Rattle.render.proofs.sounding.Statement.{statement}
 use Rattle.render.proofs.sounding.Tie as tie
 
 abbrev Inv-loop : tie.InvT-loop
 Inv-loop line₀ buffer₀ head₀ i₀ line buffer head i =
-    Rendered buffer₀ (stateOf head₀ line₀) buffer (stateOf head line) i × Valid head line
+    Reached buffer₀ (stateOf head₀ line₀) buffer head line i
 
 abbrev μ-loop : tie.MeasureT-loop
 μ-loop line₀ buffer₀ head₀ i₀ line buffer head i = length buffer₀ - i
 
 loop-holds : tie.Need-loop-holds Inv-loop μ-loop
-loop-holds c = (
-  begun (c .args .buffer .now) (stateOf (c .args .h) (c .args .line .now)) (c .pre .1),
-  c .pre .0,
-)
+loop-holds c = started refl (c .pre .1) (c .pre .0)
 
 read-requires : tie.Need-read-requires Inv-loop μ-loop
 read-requires c κs = search needs
 
 -- the sample that a pass of the loop reads
 module _ (c : tie.After-read Inv-loop μ-loop) where
-  abbrev reads : tie.At-loop Inv-loop μ-loop
-  reads = c .before .before .before
+  abbrev at : tie.At-loop Inv-loop μ-loop
+  at = c .before .before .before
 
-  is-read : c .read .result .n ≡ getD (reads .loop .buffer) (reads .loop .i) (pos 0)
+  is-read : c .read .result .n ≡ getD (at .loop .buffer) (at .loop .i) (pos 0)
   is-read = c .read .ensures
 
 step-requires : tie.Need-step-requires Inv-loop μ-loop
 step-requires c κs =
     let l = c .before .before .before .before .loop in
-    let s = c .before .before .before .before .before .args in
-    let r =
-    sample (s .buffer .now) (stateOf (s .h) (s .line .now)) (l .buffer) (stateOf (l .head) (l .line))
-    (l .i) (l .inv .0)
-    (c .before .before .before .loop-test .taken) in
-    (l .inv .1, subst (λ (z : ℤ). natAbs z ≤ M) (sym (is-read (c .before))) r)
+    (l .inv .1, reads (l .inv) (c .before .before .before .loop-test .taken) (is-read (c .before)))
 
 write-requires : tie.Need-write-requires Inv-loop μ-loop
 write-requires c κs = (
@@ -67,31 +56,20 @@ module _ (c : tie.After-write Inv-loop μ-loop) where
   abbrev pass : tie.At-loop Inv-loop μ-loop
   pass = stepped .before .before .before .before .before
 
-  abbrev begins : State
-  begins = stateOf (pass .before .args .h) (pass .before .args .line .now)
+  abbrev start : tie.Start Inv-loop μ-loop
+  start = pass .before
 
-  more : Rendered (pass .before .args .buffer .now) begins (c .write .last .0)
-      (stateOf (stepped .step .result .head) (stepped .step .last .0)) (pass .loop .i + 1)
-      × Valid (stepped .step .result .head) (stepped .step .last .0)
-  more =
-      let l = pass .loop in
-      let xs = pass .before .args .buffer .now in
-      let e = stepped .step .ensures in
-      let u = stateOf (l .head) (l .line) in
-      let w = stateOf (stepped .step .result .head) (stepped .step .last .0) in
-      let n = e .state ∙ ap (λ (x : ℤ). step u x) (is-read (stepped .before .before)) in (
-        subst (λ (k : List ℤ). Rendered xs begins k w (l .i + 1)) (sym (c .write .ensures))
-            (rendered xs begins (l .buffer) u (l .i) (l .inv .0)
-            (stepped .before .before .before .before .loop-test .taken) w
-            (stepped .step .result .y .n) n (e .y)),
-        e .valid,
-      )
+  further : Reached (start .args .buffer .now) (stateOf (start .args .h) (start .args .line .now))
+      (c .write .last .0) (stepped .step .result .head) (stepped .step .last .0) (pass .loop .i + 1)
+  further =
+      more (pass .loop .inv) (stepped .before .before .before .before .loop-test .taken)
+      (is-read (stepped .before .before)) (stepped .step .ensures) (c .write .ensures) refl
 
 same-length : tie.Need-same-length Inv-loop μ-loop
-same-length c = more (c .before .before .before .before) .0 .long
+same-length c = further (c .before .before .before .before) .0 .long
 
 returns : tie.Need-returns Inv-loop μ-loop
-returns c = let m = more (c .before .before .before .before) in (m .0, (m .1, λ h. omega arith))
+returns c = let m = further (c .before .before .before .before) in (m .0, (m .1, λ h. omega arith))
 
 loop-less : tie.Need-loop-less Inv-loop μ-loop
 loop-less c =
@@ -100,7 +78,7 @@ loop-less c =
     omega (arith, i .long, i .within, stepped w .before .before .before .before .loop-test .taken)
 
 loop-again : tie.Need-loop-again Inv-loop μ-loop
-loop-again c = more (c .before .before .before .before)
+loop-again c = further (c .before .before .before .before)
 
 same-length-2 : tie.Need-same-length-2 Inv-loop μ-loop
 same-length-2 c = c .before .loop .inv .0 .long

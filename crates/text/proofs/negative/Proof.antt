@@ -1,17 +1,15 @@
 -- `text::negative` meets its contract: 0 less the number, which fits 32 bits.
 -- Assumes nothing.
-use mathlib.Core.Path.{_≡_, ap, sym, _∙_}
-use mathlib.Core.Bool.{true, false}
+use mathlib.Core.Path.{_≡_}
 use Prim.Native.Nat.{ℕ, _≤_, _^_}
 use native.Mathlib.Omega.{arith}
 use borrow.Author.Needs.{needs}
 use borrow.Author.Tests.{le-leb, lt-leb}
 use lib.Dec.{leb}
-use lib.IntN.{ℤ, pos, negℤ}
+use lib.IntN.{pos, negℤ}
 use mir.Syntax.{w64}
 use mir.Val.{toZ}
 use mir.Facts.{toZ-ofZ, toZ-pos}
-use Rattle.text.specs.Numbers.{sample}
 use Rattle.text.proofs.Signs.{taken, outside, unread, less, less-fits, less-short}
 use Rattle.text.proofs.negative.Statement.{statement}
 use Rattle.text.proofs.negative.Tie as tie

@@ -1,8 +1,7 @@
 -- `write::magnitude` meets its contract: by the sign of the number.
 -- Assumes nothing.
-use mathlib.Core.Path.{_≡_, refl}
+use mathlib.Core.Path.{_≡_}
 use mathlib.Core.Bool.{true}
-use Prim.Native.Nat.{ℕ, _≤_, _^_}
 use native.Mathlib.Omega.{arith}
 use borrow.Author.Needs.{needs}
 use lib.IntN.{ℤ, pos}
@@ -10,7 +9,7 @@ use lib.Signed.{ltZ}
 use mir.Syntax.{w64}
 use mir.Val.{SFits, toZ, ofZ}
 use mir.Facts.{toZ-ofZ}
-use Rattle.integer.proofs.View.{read, fits-abs}
+use Rattle.integer.proofs.View.{fits-abs}
 use Rattle.write.proofs.Signs.{more-fits, turned-fits, turned-up, bounded, magnitude, above}
 use Rattle.write.proofs.magnitude.Statement.{statement}
 use Rattle.write.proofs.magnitude.Tie as tie

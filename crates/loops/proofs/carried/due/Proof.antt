@@ -1,11 +1,7 @@
 -- `loops::carried::due` meets its contract: by whether the eliminator has taken enough.
 -- Assumes nothing.
-use mathlib.Core.Path.{sym, ap, _∙_}
-use mathlib.Core.Bool.{Bool, cond}
 use borrow.Author.Needs.{needs}
 use borrow.Author.Tests.{eq-eqb, ne-eqb}
-use Rattle.parts.specs.declared.Waiting.the-variants.{Idle, Announced}
-use Rattle.parts.specs.Struct.{withOf}
 use Rattle.loops.proofs.carried.due.Statement.{statement}
 use Rattle.loops.proofs.carried.due.Tie as tie
 

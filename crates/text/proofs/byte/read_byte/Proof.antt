@@ -1,7 +1,5 @@
 -- `text::byte::read_byte` meets its contract: two bytes, each with a value below 16.
 -- Assumes nothing.
-use mathlib.Core.Path.{_≡_}
-use Prim.Native.Nat.{ℕ}
 use borrow.Author.Needs.{needs}
 use Rattle.text.proofs.Hex.{spelled, not-low, not-high, not-two}
 use Rattle.text.proofs.byte.read_byte.Statement.{statement}
