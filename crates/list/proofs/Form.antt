@@ -5,16 +5,28 @@ use mathlib.Core.Bool.{Bool, true, false, _&&_}
 use mathlib.Core.List.{List, [], _∷_}
 use Prim.Native.Nat.{ℕ, suc, _+_, _-_, _≤_, _<_}
 use native.Mathlib.Omega.{arith}
-use borrow.Author.Tests.{leb-true, ltb-true, le-leb, lt-ltb}
-use lib.Dec.{T, leb, ltb}
+use native.Mathlib.Decide.{decLt}
+use borrow.Author.Tests.{leb-true, ltb-true, le-leb, lt-ltb, eq-eqb, ne-eqb}
+use lib.Dec.{T, leb, ltb, eqb}
 use lib.IntN.{ℤ}
 use lib.ListN.{length, drop, getD, length-drop, drop-of-length-le}
 use lib.Seq.{drop-cons}
 use Rattle.list.specs.Words.{called, takes, lends, calls, fits, formed}
+use Rattle.list.specs.declared.words.Item.{Item}
 
 -- ---- the next call
+-- w is the item whose words start at `at`, as `item_at` ensures it
+abbrev pub ItemAt : List ℕ → ℕ → Item → Type 0
+ItemAt ws at w =
+    (w .kind ≡ getD ws at 0)
+    × (w .a ≡ getD ws (at + 1) 0)
+    × (w .b ≡ getD ws (at + 2) 0)
+    × (w .c ≡ getD ws (at + 3) 0)
+    × (w .takes ≡ takes (w .kind) (w .a))
+    × (w .lends ≡ lends (w .kind) (w .b))
+
 module _ (ws : List ℕ) (at : ℕ) (h : at + 4 ≤ length ws) where
-  abbrev pub word : ℕ → ℕ
+  abbrev word : ℕ → ℕ
   word i = getD ws (at + i) 0
 
   next : (i j : ℕ) → suc i ≡ at + j → at + j < length ws
@@ -32,32 +44,19 @@ module _ (ws : List ℕ) (at : ℕ) (h : at + 4 ≤ length ws) where
       ∙ ap (λ (l : List ℕ). word 2 ∷ l)
       (next (at + 2) 3 (omega arith) (omega arith) ∙ ap (λ (i : ℕ). word 3 ∷ drop i ws) last)))
 
-  abbrev pub kind : ℕ
-  kind = getD ws at 0
-
-  module _ (i o n : ℕ) where
-    abbrev pub fit : Bool
-    fit = fits kind (takes kind (word 1)) (lends kind (word 2)) i o n
-
-    abbrev pub rest : Bool
-    rest = formed (drop (at + 4) ws) (i - takes kind (word 1)) (o - lends kind (word 2)) (n - 1)
-
-    pub formed-four : formed (drop at ws) i o n ≡ (fit && rest)
+  module _ (w : Item) (e : ItemAt ws at w) where
+    pub formed-four : (i o n : ℕ)
+        → formed (drop at ws) i o n
+        ≡ (fits (w .kind) (w .takes) (w .lends) i o n
+        && formed (drop (at + 4) ws) (i - w .takes) (o - w .lends) (n - 1))
     unfolding formed
-    formed-four = rw four
+    formed-four i o n = rw (e .4, e .5, e .0, e .1, e .2, four)
 
-    pub unfit : fit ≡ false → formed (drop at ws) i o n ≡ false
-    unfit e = formed-four ∙ ap (λ (b : Bool). b && rest) e
-
-    pub fitted : fit ≡ true → formed (drop at ws) i o n ≡ rest
-    fitted e = formed-four ∙ ap (λ (b : Bool). b && rest) e
-
-  pub calls-four : (xs : List ℤ)
-      → calls (drop at ws) xs
-      ≡ called kind (word 1) (word 2) (word 3) xs
-      ∷ calls (drop (at + 4) ws) (drop (takes kind (word 1)) xs)
-  unfolding calls
-  calls-four xs = rw four
+    pub calls-four : (xs : List ℤ)
+        → calls (drop at ws) xs
+        ≡ called (w .kind) (w .a) (w .b) (w .c) xs ∷ calls (drop (at + 4) ws) (drop (w .takes) xs)
+    unfolding calls
+    calls-four xs = rw (e .4, e .0, e .1, e .2, e .3, four)
 
 -- what fits
 pub and-left : (a b : Bool) → (a && b) ≡ true → a ≡ true
@@ -86,10 +85,6 @@ fits-are k t l i o n e =
     }
 
 -- ---- no whole call
-pub formed-none : (ws : List ℕ) (at i o n : ℕ) → length ws ≤ at → formed (drop at ws) i o n ≡ true
-unfolding formed
-formed-none ws at i o n h = rw (drop-of-length-le ws h)
-
 short : (ws : List ℕ) (i o n : ℕ) → 0 < length ws → length ws < 4 → formed ws i o n ≡ false
 unfolding formed
 short [] i o n h k = absurd (omega arith)
@@ -102,6 +97,19 @@ pub formed-short : (ws : List ℕ) (at i o n : ℕ) → at < length ws → lengt
     → formed (drop at ws) i o n ≡ false
 formed-short ws at i o n h k =
     let e = length-drop at ws in short (drop at ws) i o n (omega arith) (omega arith)
+
+-- where no whole call is left, no word is, or the words are cut short
+pub formed-end : (ws : List ℕ) (at i o n : ℕ) → at ≤ length ws → length ws - at < 4
+    → formed (drop at ws) i o n ≡ eqb at (length ws)
+unfolding formed
+formed-end ws at i o n h k = go (decLt at (length ws))
+  where
+    go : Dec (at < length ws) → formed (drop at ws) i o n ≡ eqb at (length ws)
+    go (yes l) = rw (ne-eqb at (length ws) (λ e. omega arith)) (formed-short ws at i o n l k)
+    go (no l) =
+        let e : at ≡ length ws = omega arith in
+        let f : length ws ≤ at = omega arith in
+        rw (eq-eqb at (length ws) e, drop-of-length-le ws f)
 
 -- ---- more output left
 pub formed-more : (ws : List ℕ) (i o p n : ℕ) → o ≤ p → formed ws i o n ≡ true → formed ws i p n ≡ true

@@ -37,21 +37,19 @@ pub fn perform(
         (now (output .exit))
         (now (numbers .exit)) ⌝ }
 {
-    if !words::formed(words, input.len(), output.len(), numbers.len()) {
-        return Performed {
+    if words::formed(words, input.len(), output.len(), numbers.len()) {
+        let o = open(order, length, delay, loss, advance);
+        let mut line = o.voice.line;
+        Performed {
+            refusal: 0,
+            opening: o.refusal,
+            written: run::run(&mut line, o.voice.head, words, input, output, numbers),
+        }
+    } else {
+        Performed {
             refusal: 31,
             opening: 0,
             written: 0,
-        };
-    }
-    let o = open(order, length, delay, loss, advance);
-    let v = o.voice;
-    let mut line = v.line;
-    let h = v.head;
-    let written = run::run(&mut line, h, words, input, output, numbers);
-    Performed {
-        refusal: 0,
-        opening: o.refusal,
-        written: written,
+        }
     }
 }

@@ -11,6 +11,7 @@ ghost use Rattle.parts.specs.Called.{On};
 ghost use Rattle.list.specs.Words.{called, takes, lends};
 ghost use Rattle.list.specs.Performed.{over};
 ghost use lib.IntN.{ℤ};
+use crate::words::Item;
 use block::block;
 use change::announce;
 use change::instant;
@@ -20,50 +21,43 @@ use voice::calls::loss;
 use voice::calls::pluck;
 
 // The calls that are no block.
-fn set(line: &[i32; 2112], head: Head, kind: u32, a: u32, b: u32, c: u32) -> Answer
-    requires { ⌜ Valid head (now line) × (0 < kind) × (kind ≤ 4) ⌝ }
+fn set(line: &[i32; 2112], head: Head, w: Item) -> Answer
+    requires { ⌜ Valid head (now line) × (0 < w .kind) × (w .kind ≤ 4) ⌝ }
     ensures { λ r. ⌜ ((xs : List ℤ)
-        → On head (now (line .entry)) (called kind a b c xs) r (now (line .entry))) ⌝ }
+        → On head (now (line .entry)) (called (w .kind) (w .a) (w .b) (w .c) xs) r (now (line .entry))) ⌝ }
 {
-    if kind == 1 {
-        return loss(head, a);
+    if w.kind == 1 {
+        return loss(head, w.a);
     }
-    if kind == 2 {
-        return pluck(head, a, b, c);
+    if w.kind == 2 {
+        return pluck(head, w.a, w.b, w.c);
     }
-    if kind == 3 {
-        return announce(head, a, b);
+    if w.kind == 3 {
+        return announce(head, w.a, w.b);
     }
-    let r = instant(line, head, a, b);
-    let x = r.answer;
-    x
+    let r = instant(line, head, w.a, w.b);
+    r.answer
 }
 
 // Any call: input is what is left of the input, and output what a block may write to.
-pub fn one(
-    line: &mut [i32; 2112],
-    head: Head,
-    kind: u32,
-    a: u32,
-    b: u32,
-    c: u32,
-    input: &[i32],
-    output: &mut [i32],
-) -> Answer
+pub fn one(line: &mut [i32; 2112], head: Head, w: Item, input: &[i32], output: &mut [i32]) -> Answer
     requires { ⌜ Valid head (now line)
-        × (kind ≤ 4)
-        × (takes kind a ≤ length (now input))
-        × (lends kind b ≤ length (now output)) ⌝ }
-    ensures { λ r. ⌜ On head (now (line .entry)) (called kind a b c (now (input .entry))) r
+        × (w .kind ≤ 4)
+        × (takes (w .kind) (w .a) ≤ length (now input))
+        × (lends (w .kind) (w .b) ≤ length (now output)) ⌝ }
+    ensures { λ r. ⌜ On head (now (line .entry))
+        (called (w .kind) (w .a) (w .b) (w .c) (now (input .entry))) r
         (now (line .exit)) ⌝ }
     ensures { λ r. ⌜ now (output .exit)
-        ≡ over (put (stateOf head (now (line .entry))) (called kind a b c (now (input .entry))))
+        ≡ over
+        (put (stateOf head (now (line .entry)))
+        (called (w .kind) (w .a) (w .b) (w .c) (now (input .entry))))
         (now (output .entry)) ⌝ }
 {
-    if kind == 0 {
-        let takes = a as usize;
-        let lends = b as usize;
+    if w.kind == 0 {
+        let takes = w.a as usize;
+        let lends = w.b as usize;
         return block(line, head, &input[..takes], &mut output[..lends]);
     }
-    set(line, head, kind, a, b, c)
+    set(line, head, w)
 }

@@ -10,12 +10,13 @@ ghost use Rattle.list.specs.Words.{calls, formed};
 ghost use Rattle.list.specs.Performed.{over};
 use crate::one::one;
 use crate::words::if_zero;
+use crate::words::item_at;
 use parts::Head;
 
 // Makes the calls of words, which are in form, and returns how many samples they put out.
 pub fn run(
     line: &mut [i32; 2112],
-    head: Head,
+    mut head: Head,
     words: &[u32],
     input: &[i32],
     output: &mut [i32],
@@ -33,30 +34,17 @@ pub fn run(
         ≡ over (Numbers (stateOf head (now (line .entry))) (calls (now (words .entry)) (now (input .entry))))
         (now (numbers .entry)) ⌝ }
 {
-    let mut h = head;
     let mut at = 0;
     let mut used = 0;
     let mut written = 0;
     let mut k = 0;
     while at < words.len() {
-        let kind = words[at];
-        let a = words[at + 1];
-        let b = words[at + 2];
-        let c = words[at + 3];
-        let r = one(
-            line,
-            h,
-            kind,
-            a,
-            b,
-            c,
-            &input[used..],
-            &mut output[written..],
-        );
+        let w = item_at(words, at);
+        let r = one(line, head, w, &input[used..], &mut output[written..]);
         numbers[k] = r.refusal;
-        written = written + if_zero(r.refusal, if_zero(kind, b as usize));
-        h = r.head;
-        used = used + if_zero(kind, a as usize);
+        head = r.head;
+        written = written + if_zero(r.refusal, w.lends);
+        used = used + w.takes;
         k = k + 1;
         at = at + 4;
     }

@@ -10,6 +10,7 @@ use Rattle.rule.specs.Calls.{Call, block}
 use Rattle.rule.specs.State.{put}
 use Rattle.parts.specs.Struct.{stateOf}
 use Rattle.parts.specs.Called.{On}
+use Rattle.list.specs.declared.words.Item.{Item}
 use Rattle.list.specs.Words.{called, takes, lends}
 use Rattle.list.specs.Performed.{over}
 use Rattle.list.proofs.Calling.{over-still, over-lent}
@@ -18,30 +19,38 @@ use Rattle.list.proofs.one.one.Tie as tie
 
 -- a block takes no more than there is, and lends no more
 module _ (c : tie.Then1) where
-  inputs : c .before .args .a ≤ length (c .before .args .input .now)
-  inputs =
-      let s = c .before .args in
-      subst (λ (k : ℕ). takes k (s .a) ≤ length (s .input .now)) (c .if1 .taken) (c .before .pre .2)
+  abbrev s : tie.Start
+  s = c .before .before
 
-  outputs : c .before .args .b ≤ length (c .before .args .output .now)
+  abbrev w : Item
+  w = s .args .w
+
+  inputs : w .a ≤ length (s .args .input .now)
+  inputs =
+      subst (λ (k : ℕ). takes k (w .a) ≤ length (s .args .input .now)) (c .if1 .taken) (s .pre .2)
+
+  outputs : w .b ≤ length (s .args .output .now)
   outputs =
-      let s = c .before .args in
-      subst (λ (k : ℕ). lends k (s .b) ≤ length (s .output .now)) (c .if1 .taken) (c .before .pre .3)
+      subst (λ (k : ℕ). lends k (w .b) ≤ length (s .args .output .now)) (c .if1 .taken) (s .pre .3)
+
+cast-takes : tie.Need-cast-takes
+cast-takes c = search needs
+
+cast-lends : tie.Need-cast-lends
+cast-lends c = search needs
 
 slice-aggregate-block : tie.Need-slice-aggregate-block
 slice-aggregate-block c =
-    let t = c .before .before in
-    let s = t .before .args in
-    sym (length-take-le (s .a) (s .input .now) (inputs t))
+    let t = c .before .before .before .before in
+    sym (length-take-le (w t .a) (s t .args .input .now) (inputs t))
 
 slice-relend-prefix-block : tie.Need-slice-relend-prefix-block
-slice-relend-prefix-block c = outputs (c .before .before)
+slice-relend-prefix-block c = outputs (c .before .before .before .before)
 
 slice-aggregate-block-2 : tie.Need-slice-aggregate-block-2
 slice-aggregate-block-2 c =
-    let t = c .before .before .before in
-    let s = t .before .args in
-    sym (length-take-le (s .b) (s .output .now) (outputs t))
+    let t = c .before .before .before .before .before in
+    sym (length-take-le (w t .b) (s t .args .output .now) (outputs t))
 
 block-requires : tie.Need-block-requires
 block-requires c κs = search needs
@@ -52,18 +61,19 @@ same-length c = search needs
 returns : tie.Need-returns
 returns c =
     let r = c .before in
-    let t = r .before .before .before .before in
-    let s = t .before .args in
-    let n = length-take-le (s .b) (s .output .now) (outputs t) in
-    let made = block (take (s .a) (s .input .now)) (length (take (s .b) (s .output .now))) in
-    let same : made ≡ called (s .kind) (s .a) (s .b) (s .c) (s .input .now)
-    = ap (λ (m : ℕ). block (take (s .a) (s .input .now)) m) n
-    ∙ ap (λ (k : ℕ). called k (s .a) (s .b) (s .c) (s .input .now)) (sym (t .if1 .taken)) in (
-      subst (λ (k : Call). On (s .head) (s .line .now) k (r .block .result) (r .block .last .0)) same
+    let t = r .before .before .before .before .before .before in
+    let a = s t .args in
+    let v = w t in
+    let n = length-take-le (v .b) (a .output .now) (outputs t) in
+    let made = block (take (v .a) (a .input .now)) (length (take (v .b) (a .output .now))) in
+    let same : made ≡ called (v .kind) (v .a) (v .b) (v .c) (a .input .now)
+    = ap (λ (m : ℕ). block (take (v .a) (a .input .now)) m) n
+    ∙ ap (λ (k : ℕ). called k (v .a) (v .b) (v .c) (a .input .now)) (sym (t .if1 .taken)) in (
+      subst (λ (k : Call). On (a .head) (a .line .now) k (r .block .result) (r .block .last .0)) same
           (r .block .ensures .0),
-      over-lent (s .head) (s .line .now) made (s .b) (r .block .last .1 .1 .1 .0) (s .output .now)
+      over-lent (a .head) (a .line .now) made (v .b) (r .block .last .1 .1 .1 .0) (a .output .now)
           (r .block .kept .1 .1 .1 .0 ∙ n) (r .block .ensures .1)
-          ∙ ap (λ (k : Call). over (put (stateOf (s .head) (s .line .now)) k) (s .output .now)) same,
+          ∙ ap (λ (k : Call). over (put (stateOf (a .head) (a .line .now)) k) (a .output .now)) same,
     )
 
 set-requires : tie.Need-set-requires
@@ -71,17 +81,21 @@ set-requires c κs = search needs
 
 returns-2 : tie.Need-returns-2
 returns-2 c =
-    let s = c .before .before .before in
-    let a = s .args in (
+    let e = c .before .before in
+    let s = e .before .before in
+    let a = s .args in
+    let w = a .w in (
       c .set .ensures (a .input .now),
-      over-still (stateOf (a .head) (a .line .now)) (a .kind) (a .a) (a .b) (a .c) (a .input .now)
-          (a .output .now) (omega (arith, c .before .before .if1 .left)) (s .pre .1),
+      over-still (stateOf (a .head) (a .line .now)) (w .kind) (w .a) (w .b) (w .c) (a .input .now)
+          (a .output .now) (omega (arith, e .if1 .left)) (s .pre .1),
     )
 
 pub one-spec : {M : Type 1} → statement M
 one-spec =
     tie.close
     (tie.spec
+    cast-takes
+    cast-lends
     slice-aggregate-block
     slice-relend-prefix-block
     slice-aggregate-block-2

@@ -16,38 +16,39 @@ use Rattle.list.proofs.one.set.Tie as tie
 -- the call of kind k was made, and returned r
 abbrev Made : tie.Start → ℕ → Answer → Type 0
 Made s k r =
+    let w = s .args .w in
     (xs : List ℤ)
-    → On (s .args .head) (s .args .line .now) (called k (s .args .a) (s .args .b) (s .args .c) xs) r
-    (s .args .line .now)
+    → On (s .args .head) (s .args .line .now) (called k (w .a) (w .b) (w .c) xs) r (s .args .line .now)
 
 -- the kind is known to be k
-made : (s : tie.Start) (k : ℕ) → s .args .kind ≡ k → (r : Answer) → Made s k r → Made s (s .args .kind) r
+made : (s : tie.Start) (k : ℕ) → s .args .w .kind ≡ k → (r : Answer) → Made s k r
+    → Made s (s .args .w .kind) r
 made s k e r f = subst (λ (n : ℕ). Made s n r) (sym e) f
 
 loss-requires : tie.Need-loss-requires
-loss-requires c κs = c .before .pre .0 .fit
+loss-requires c κs = c .before .before .pre .0 .fit
 
 returns : tie.Need-returns
 returns c =
-    let s = c .before .before in
+    let s = c .before .before .before in
     made s 1 (c .before .if1 .taken) (c .loss .result)
     (λ xs. on (s .args .line .now) (c .loss .ensures) (s .pre .0 .line))
 
 pluck-requires : tie.Need-pluck-requires
-pluck-requires c κs = c .before .before .pre .0 .fit
+pluck-requires c κs = c .before .before .before .before .pre .0 .fit
 
 returns-2 : tie.Need-returns-2
 returns-2 c =
-    let s = c .before .before .before in
+    let s = c .before .before .before .before .before in
     made s 2 (c .before .if2 .taken) (c .pluck .result)
     (λ xs. on (s .args .line .now) (c .pluck .ensures) (s .pre .0 .line))
 
 announce-requires : tie.Need-announce-requires
-announce-requires c κs = c .before .before .before .pre .0 .fit
+announce-requires c κs = c .before .before .before .before .before .before .pre .0 .fit
 
 returns-3 : tie.Need-returns-3
 returns-3 c =
-    let s = c .before .before .before .before in
+    let s = c .before .before .before .before .before .before .before in
     made s 3 (c .before .if3 .taken) (c .announce .result)
     (λ xs. on (s .args .line .now) (c .announce .ensures) (s .pre .0 .line))
 
@@ -57,10 +58,11 @@ instant-requires c κs = search needs
 returns-4 : tie.Need-returns-4
 returns-4 c =
     let b = c .before in
-    let t = b .before .before in
-    let s = t .before .before in
-    let e : s .args .kind ≡ 4
-    = omega (arith, s .pre .1, s .pre .2, t .before .if1 .left, t .if2 .left, b .before .if3 .left) in
+    let t = b .before .before .before in
+    let f = t .before .before in
+    let s = f .before .before in
+    let e : s .args .w .kind ≡ 4
+    = omega (arith, s .pre .1, s .pre .2, f .if1 .left, t .if2 .left, b .before .if3 .left) in
     made s 4 e (b .instant .result .answer) (λ xs. b .instant .ensures .0)
 
 pub set-spec : {M : Type 1} → statement M

@@ -1,24 +1,19 @@
 -- `list::run::run` meets its contract: each turn makes the next call. Proof/Loop.antt has the invariant.
 -- Assumes nothing.
-mod Counts
 mod Loop
 use native.Mathlib.Omega.{arith}
+use borrow.Author.Needs.{needs}
 use borrow.Rule.Slice.PartAt.{part-to-end}
+use lib.Dec.{eqb}
 use Rattle.render.proofs.Joined.{back}
 use Rattle.parts.specs.Struct.{stateOf}
-use Rattle.list.proofs.Running.{begun, out-long, nums-long}
+use Rattle.list.proofs.Running.{begun, room, out-long, nums-long}
 use Rattle.list.proofs.Running.{all-out, all-written, all-numbers}
-use Rattle.list.proofs.Turn.{called-next}
-use Rattle.list.proofs.run.run.Proof.Loop.{Inv-loop, μ-loop, start, counted, mul-kind}
-use Rattle.list.proofs.run.run.Proof.Loop.{shared-slice-read-kind, add-a, mul-a, shared-slice-read-a}
-use Rattle.list.proofs.run.run.Proof.Loop.{add-b, mul-b, shared-slice-read-b, add-c, mul-c}
-use Rattle.list.proofs.run.run.Proof.Loop.{shared-slice-read-c, mul-one, sub-one, part-one-start}
+use Rattle.list.proofs.Turn.{at-most, called-next}
+use Rattle.list.proofs.run.run.Proof.Loop.{Inv-loop, μ-loop, turn, start, w, fit}
+use Rattle.list.proofs.run.run.Proof.Loop.{item-at-requires, mul-one, sub-one, part-one-start}
 use Rattle.list.proofs.run.run.Proof.Loop.{part-one-end, mul-one-2, sub-one-2, part-one-start-2}
 use Rattle.list.proofs.run.run.Proof.Loop.{part-one-end-2, one-requires}
-use Rattle.list.proofs.run.run.Proof.Counts.{mul-numbers, slice-write-numbers, cast-if-zero}
-use Rattle.list.proofs.run.run.Proof.Counts.{if-zero-requires, if-zero-requires-2, add-written}
-use Rattle.list.proofs.run.run.Proof.Counts.{cast-if-zero-2, if-zero-requires-3, add-used, add-k}
-use Rattle.list.proofs.run.run.Proof.Counts.{add-at, loop-less}
 use Rattle.list.proofs.run.run.Statement.{statement}
 use Rattle.list.proofs.run.run.Tie as tie
 
@@ -31,19 +26,68 @@ loop-holds c =
       b .pre .0,
     )
 
+-- where the call was made, and where what it put out is counted
+abbrev made : tie.After-output Inv-loop μ-loop → tie.After-item-at Inv-loop μ-loop
+made c = c .before .before .before .before .before
+
+abbrev counted : tie.After-if-zero Inv-loop μ-loop → tie.After-item-at Inv-loop μ-loop
+counted c = made (c .before .before)
+
+mul-numbers : tie.Need-mul-numbers Inv-loop μ-loop
+mul-numbers c =
+    let a = made c in
+    omega (arith, turn a .loop .inv .0 .k-within, start a .good .1 .1 .1 .1 .1 .0 .1)
+
+slice-write-numbers : tie.Need-slice-write-numbers Inv-loop μ-loop
+slice-write-numbers c =
+    let a = made c in
+    omega (arith, fit a .place, nums-long (turn a .loop .inv .0))
+
+if-zero-requires : tie.Need-if-zero-requires Inv-loop μ-loop
+if-zero-requires c κs = search needs
+
+add-written : tie.Need-add-written Inv-loop μ-loop
+add-written c =
+    let a = counted c in
+    omega (
+      arith,
+      at-most (eqb (c .before .before .before .one .result .refusal) 0) _ _ (c .if-zero .ensures),
+      fit a .output,
+      turn a .loop .inv .0 .written-within,
+      start a .good .1 .1 .1 .1 .0 .0,
+    )
+
+add-used : tie.Need-add-used Inv-loop μ-loop
+add-used c =
+    let a = counted (c .before) in
+    omega (arith, fit a .input, turn a .loop .inv .0 .used-within, start a .good .1 .1 .1 .0 .0)
+
+add-k : tie.Need-add-k Inv-loop μ-loop
+add-k c =
+    let a = counted (c .before) in
+    omega (arith, fit a .place, start a .good .1 .1 .1 .1 .1 .0 .0)
+
+add-at : tie.Need-add-at Inv-loop μ-loop
+add-at c =
+    let a = counted (c .before) in
+    omega (arith, room (turn a .loop .inv .0) (a .before .loop-test .taken), start a .good .1 .1 .0 .0)
+
+loop-less : tie.Need-loop-less Inv-loop μ-loop
+loop-less c = omega (arith, counted (c .before) .before .loop-test .taken)
+
 loop-again : tie.Need-loop-again Inv-loop μ-loop
 loop-again c =
-    let d = c .before .before .before .before .before in
-    let t = counted c in
-    let l = t .before .loop in
+    let a = counted (c .before) in
+    let l = turn a .loop in
     let i = l .inv .0 in
-    let e = d .one .ensures in (
-      called-next i (t .loop-test .taken) (part-to-end (start t .args .input .now) (l .used))
-          (part-to-end (l .output) (l .written)) (e .0 .number) (e .0 .state) (e .1)
-          (back (l .written) (l .output) (d .one .last .1 .1 .1 .1 .1 .1 .1 .0)
+    let m = c .before .before .before .before .one in
+    let e = m .ensures in (
+      called-next i (a .before .loop-test .taken) (w a) (a .item-at .ensures)
+          (part-to-end (start a .args .input .now) (l .used)) (part-to-end (l .output) (l .written))
+          (e .0 .number) (e .0 .state) (e .1)
+          (back (l .written) (l .output) (m .last .1 .1 .1 .1 .0)
           (omega (arith, i .written-within, out-long i)))
-          (c .if-zero3 .ensures) (c .before .before .before .if-zero .ensures)
-          (c .before .before .if-zero2 .ensures),
+          (c .before .if-zero .ensures),
       e .0 .valid,
     )
 
@@ -66,17 +110,7 @@ run-spec =
     Inv-loop
     μ-loop
     loop-holds
-    mul-kind
-    shared-slice-read-kind
-    add-a
-    mul-a
-    shared-slice-read-a
-    add-b
-    mul-b
-    shared-slice-read-b
-    add-c
-    mul-c
-    shared-slice-read-c
+    item-at-requires
     mul-one
     sub-one
     part-one-start
@@ -88,12 +122,8 @@ run-spec =
     one-requires
     mul-numbers
     slice-write-numbers
-    cast-if-zero
     if-zero-requires
-    if-zero-requires-2
     add-written
-    cast-if-zero-2
-    if-zero-requires-3
     add-used
     add-k
     add-at

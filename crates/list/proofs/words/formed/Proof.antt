@@ -1,100 +1,91 @@
 -- `list::words::formed` meets its contract: the words that are left are in form just where all are.
 -- Assumes nothing.
-mod Reads
 use Prim.Native.Nat.{ℕ, _≤_, _+_, _-_}
 use mathlib.Core.List.{List}
-use mathlib.Core.Path.{_≡_, refl, sym, ap₂, _∙_}
-use mathlib.Core.Bool.{true, false, not}
+use mathlib.Core.Path.{_≡_, refl, sym, ap, _∙_}
+use mathlib.Core.Bool.{Bool, true, false, _&&_}
 use native.Mathlib.Omega.{arith}
 use borrow.Author.Needs.{needs}
 use borrow.Author.Tests.{not-true, not-false}
-use lib.ListN.{length, drop, getD}
-use Rattle.list.specs.Words.{takes, lends, fits, formed}
-use Rattle.list.proofs.Form.{Fits, fits-are, unfit, fitted, formed-none, formed-short}
-use Rattle.list.proofs.words.formed.Proof.Reads.{Inv-loop, μ-loop, mul-kind}
-use Rattle.list.proofs.words.formed.Proof.Reads.{shared-slice-read-kind, add-if-zero, mul-if-zero}
-use Rattle.list.proofs.words.formed.Proof.Reads.{shared-slice-read-if-zero, cast-if-zero}
-use Rattle.list.proofs.words.formed.Proof.Reads.{if-zero-requires, add-if-zero-2, mul-if-zero-2}
-use Rattle.list.proofs.words.formed.Proof.Reads.{shared-slice-read-if-zero-2, cast-if-zero-2}
-use Rattle.list.proofs.words.formed.Proof.Reads.{if-zero-requires-2, fits-requires}
+use lib.ListN.{length, drop}
+use Rattle.list.specs.declared.words.Item.{Item}
+use Rattle.list.specs.Words.{formed}
+use Rattle.list.proofs.Form.{Fits, fits-are, formed-four, formed-end}
 use Rattle.list.proofs.words.formed.Statement.{statement}
 use Rattle.list.proofs.words.formed.Tie as tie
+
+abbrev Inv-loop : tie.InvT-loop
+Inv-loop words inputs₀ outputs₀ numbers₀ at₀ inputs outputs numbers at =
+    (at ≤ length words)
+    × (formed (drop at words) inputs outputs numbers ≡ formed words inputs₀ outputs₀ numbers₀)
+
+abbrev μ-loop : tie.MeasureT-loop
+μ-loop words inputs₀ outputs₀ numbers₀ at₀ inputs outputs numbers at = length words - at
 
 loop-holds : tie.Need-loop-holds Inv-loop μ-loop
 loop-holds c = (omega arith, refl)
 
-sub-if1 : tie.Need-sub-if1 Inv-loop μ-loop
-sub-if1 c = search needs
+sub-loop : tie.Need-sub-loop Inv-loop μ-loop
+sub-loop c = search needs
 
-returns : tie.Need-returns Inv-loop μ-loop
-returns c =
-    let l = c .before .before .loop in
-    let w = c .before .before .before .before .args .words .now in
-    let e = formed-short w (l .at) (l .i) (l .o) (l .n) (c .before .loop-test .taken) (c .if1 .taken) in
-    sym e ∙ l .inv .1
+item-at-requires : tie.Need-item-at-requires Inv-loop μ-loop
+item-at-requires c κs = search needs
 
--- where a call's words have been tested
+fits-requires : tie.Need-fits-requires Inv-loop μ-loop
+fits-requires c κs = search needs
+
+-- where a call was tested: with those behind it, it is in form just where all are
 module _ (c : tie.After-fits2 Inv-loop μ-loop) where
-  abbrev first : tie.After-if-zero Inv-loop μ-loop
-  first = c .before .before .before
+  abbrev turn : tie.At-loop Inv-loop μ-loop
+  turn = c .before .before .before
 
-  abbrev turn : tie.In-loop Inv-loop μ-loop
-  turn = first .before .before .before .before
+  abbrev start : tie.Start Inv-loop μ-loop
+  start = turn .before .before
 
-  abbrev w : List ℕ
-  w = turn .before .before .before .args .words .now
+  abbrev ws : List ℕ
+  ws = start .args .words .now
 
   abbrev at : ℕ
-  at = turn .before .loop .at
+  at = turn .loop .at
 
-  abbrev i : ℕ
-  i = turn .before .loop .i
+  abbrev w : Item
+  w = c .before .item-at .result
 
-  abbrev o : ℕ
-  o = turn .before .loop .o
+  room : at + 4 ≤ length ws
+  room = omega (arith, c .before .before .loop-test .taken)
 
-  abbrev n : ℕ
-  n = turn .before .loop .n
+  abbrev behind : Bool
+  behind =
+      formed (drop (at + 4) ws) (turn .loop .inputs - w .takes) (turn .loop .outputs - w .lends)
+      (turn .loop .numbers - 1)
 
-  abbrev kind : ℕ
-  kind = getD w at 0
+  both : (b : Bool) → c .fits2 .result ≡ b
+      → (b && behind) ≡ formed ws (start .args .inputs) (start .args .outputs) (start .args .numbers)
+  both b e =
+      ap (λ (t : Bool). t && behind) (sym e ∙ c .fits2 .ensures)
+      ∙ sym (formed-four ws at room w (c .before .item-at .ensures) _ _ _)
+      ∙ turn .loop .inv .1
 
-  abbrev takes′ : ℕ
-  takes′ = takes kind (getD w (at + 1) 0)
+returns : tie.Need-returns Inv-loop μ-loop
+returns c = both (c .before) false (not-true (c .before .fits2 .result) (c .if1 .taken))
 
-  abbrev lends′ : ℕ
-  lends′ = lends kind (getD w (at + 2) 0)
+-- it fits
+module _ (c : tie.Else1 Inv-loop μ-loop) where
+  fits : c .before .fits2 .result ≡ true
+  fits = not-false (c .before .fits2 .result) (c .if1 .left)
 
-  room : at + 4 ≤ length w
-  room = omega (arith, turn .loop-test .taken, first .before .before .before .if1 .left)
+  passes : let b = c .before in let l = turn b .loop in
+      Fits (w b .kind) (w b .takes) (w b .lends) (l .inputs) (l .outputs) (l .numbers)
+  passes = fits-are _ _ _ _ _ _ (sym (c .before .fits2 .ensures) ∙ fits)
 
-  tested : c .fits2 .result ≡ fits kind takes′ lends′ i o n
-  tested =
-      c .fits2 .ensures
-      ∙ ap₂ (λ (t l : ℕ). fits kind t l i o n) (first .if-zero .ensures) (c .before .if-zero2 .ensures)
+sub-inputs : tie.Need-sub-inputs Inv-loop μ-loop
+sub-inputs c = passes (c .before) .input
 
-  passed : not (c .fits2 .result) ≡ false → fits kind takes′ lends′ i o n ≡ true
-  passed e = sym tested ∙ not-false (c .fits2 .result) e
+sub-outputs : tie.Need-sub-outputs Inv-loop μ-loop
+sub-outputs c = passes (c .before .before) .output
 
-returns-2 : tie.Need-returns-2 Inv-loop μ-loop
-returns-2 c =
-    let b = c .before in
-    let f = sym (tested b) ∙ not-true (b .fits2 .result) (c .if2 .taken) in
-    sym (unfit (w b) (at b) (room b) (i b) (o b) (n b) f) ∙ turn b .before .loop .inv .1
-
-passes : (c : tie.Else2 Inv-loop μ-loop)
-    → Fits (kind (c .before)) (takes′ (c .before)) (lends′ (c .before)) (i (c .before)) (o (c .before))
-    (n (c .before))
-passes c = fits-are _ _ _ _ _ _ (passed (c .before) (c .if2 .left))
-
-sub-i : tie.Need-sub-i Inv-loop μ-loop
-sub-i c = omega (arith, first (c .before) .if-zero .ensures, passes c .input)
-
-sub-o : tie.Need-sub-o Inv-loop μ-loop
-sub-o c = omega (arith, c .before .before .if-zero2 .ensures, passes c .output)
-
-sub-n : tie.Need-sub-n Inv-loop μ-loop
-sub-n c = passes c .place
+sub-numbers : tie.Need-sub-numbers Inv-loop μ-loop
+sub-numbers c = passes (c .before .before) .place
 
 add-at : tie.Need-add-at Inv-loop μ-loop
 add-at c = search needs
@@ -103,20 +94,13 @@ loop-less : tie.Need-loop-less Inv-loop μ-loop
 loop-less c = search needs
 
 loop-again : tie.Need-loop-again Inv-loop μ-loop
-loop-again c =
-    let b = c .before in (
-      room b,
-      ap₂ (λ (t l : ℕ). formed (drop (at b + 4) (w b)) (i b - t) (o b - l) (n b - 1))
-          (first b .if-zero .ensures) (b .before .if-zero2 .ensures)
-          ∙ sym (fitted (w b) (at b) (room b) (i b) (o b) (n b) (passed b (c .if2 .left)))
-          ∙ turn b .before .loop .inv .1,
-    )
+loop-again c = let e = c .before .before in (room (e .before), both (e .before) true (fits e))
 
-returns-3 : tie.Need-returns-3 Inv-loop μ-loop
-returns-3 c =
+returns-2 : tie.Need-returns-2 Inv-loop μ-loop
+returns-2 c =
     let l = c .before .loop in
-    let w = c .before .before .before .args .words .now in
-    sym (formed-none w (l .at) (l .i) (l .o) (l .n) (c .loop-test .left)) ∙ l .inv .1
+    sym (formed-end _ (l .at) (l .inputs) (l .outputs) (l .numbers) (l .inv .0) (c .loop-test .left))
+    ∙ l .inv .1
 
 pub formed-spec : {M : Type 1} → statement M
 formed-spec =
@@ -125,26 +109,14 @@ formed-spec =
     Inv-loop
     μ-loop
     loop-holds
-    sub-if1
-    returns
-    mul-kind
-    shared-slice-read-kind
-    add-if-zero
-    mul-if-zero
-    shared-slice-read-if-zero
-    cast-if-zero
-    if-zero-requires
-    add-if-zero-2
-    mul-if-zero-2
-    shared-slice-read-if-zero-2
-    cast-if-zero-2
-    if-zero-requires-2
+    sub-loop
+    item-at-requires
     fits-requires
-    returns-2
-    sub-i
-    sub-o
-    sub-n
+    returns
+    sub-inputs
+    sub-outputs
+    sub-numbers
     add-at
     loop-less
     loop-again
-    returns-3)
+    returns-2)
