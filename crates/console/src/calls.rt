@@ -40,10 +40,9 @@ pub fn opened(line: &mut [i32; 2112], l: Request) -> Made
     ensures { λ r. ⌜ Valid (r .head) (now (line .exit)) ⌝ }
 {
     let o = voice::open::open(l.a, l.b, l.c, l.d, l.e);
-    let v = o.voice;
-    let x = v.line;
+    let x = o.voice.line;
     *line = x;
-    let h = v.head;
+    let h = o.voice.head;
     Made {
         refusal: o.refusal,
         count: 0,
@@ -110,10 +109,9 @@ fn instant(line: &[i32; 2112], head: Head, l: Request) -> Made
     ensures { λ r. ⌜ Valid (r .head) (now (line .entry)) ⌝ }
 {
     let c = change::instant(line, head, l.a, l.b);
-    let a = c.answer;
-    let h = a.head;
+    let h = c.answer.head;
     Made {
-        refusal: a.refusal,
+        refusal: c.answer.refusal,
         count: c.count,
         head: h,
     }

@@ -69,10 +69,9 @@ fn rest<'a>(t: &'a [u8], e: usize) -> &'a [u8]
 }
 
 // Answers the lines of a text. The last is left where the text is cut in it.
-fn lines(s: &[u8], line: &mut [i32; 2112], first: Head, buffer: &mut [u8; 4096])
-    requires { ⌜ Valid first (now line) ⌝ }
+fn lines(s: &[u8], line: &mut [i32; 2112], mut head: Head, buffer: &mut [u8; 4096])
+    requires { ⌜ Valid head (now line) ⌝ }
 {
-    let mut head = first;
     let mut at = 0;
     let mut t = s;
     let mut index = 1;
@@ -96,8 +95,7 @@ fn console(s: &[u8]) {
     let mut line = [0i32; 2112];
     let mut buffer = [0u8; 4096];
     let first = opened(&mut line, plain(EMPTY));
-    let head = first.head;
-    lines(s, &mut line, head, &mut buffer);
+    lines(s, &mut line, first.head, &mut buffer);
 }
 
 fn main() {

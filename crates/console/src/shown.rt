@@ -22,8 +22,7 @@ fn held(buffer: &mut [u8; 4096], at: usize, s: State) -> usize {
 fn change(buffer: &mut [u8; 4096], at: usize, e: Filter, taken: u32) -> usize {
     let a = triple(buffer, at, 1, e.tuning.length, e.tuning.delay);
     let b = short(buffer, a, taken);
-    let s = e.state;
-    held(buffer, b, s)
+    held(buffer, b, e.state)
 }
 
 // Six numbers: a change that waits, or 0 where none does.
@@ -49,21 +48,16 @@ fn force(buffer: &mut [u8; 4096], at: usize, f: Filter, loss: u32, advance: u32)
 
 // The last output, the filter's state, what waits and the rest of a pluck.
 fn ahead(buffer: &mut [u8; 4096], at: usize, h: Head) -> usize {
-    let y = h.last;
-    let a = signed(buffer, at, y);
-    let f = h.filter;
-    let s = f.state;
-    let b = held(buffer, a, s);
+    let a = signed(buffer, at, h.last);
+    let b = held(buffer, a, h.filter.state);
     let w = h.waiting;
     let c = waiting(buffer, b, w);
-    let p = h.pluck;
-    pluck(buffer, c, p)
+    pluck(buffer, c, h.pluck)
 }
 
 // Every part of a head.
 pub fn state(buffer: &mut [u8; 4096], at: usize, h: Head) -> usize {
-    let f = h.filter;
-    let a = force(buffer, at, f, h.loss, h.advance);
+    let a = force(buffer, at, h.filter, h.loss, h.advance);
     ahead(buffer, a, h)
 }
 

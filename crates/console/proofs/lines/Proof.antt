@@ -10,11 +10,11 @@ use Rattle.console.proofs.lines.Statement.{statement}
 use Rattle.console.proofs.lines.Tie as tie
 
 abbrev Inv-loop : tie.InvT-loop
-Inv-loop s line₀ buffer₀ head₀ at₀ t₀ index₀ line buffer head at t index =
+Inv-loop s line₀ head₀ buffer₀ at₀ t₀ index₀ line head buffer at t index =
     Valid head line × (index + length t ≤ length s + 1)
 
 abbrev μ-loop : tie.MeasureT-loop
-μ-loop s line₀ buffer₀ head₀ at₀ t₀ index₀ line buffer head at t index = length t
+μ-loop s line₀ head₀ buffer₀ at₀ t₀ index₀ line head buffer at t index = length t
 
 loop-holds : tie.Need-loop-holds Inv-loop μ-loop
 loop-holds c = search needs
