@@ -41,12 +41,11 @@ fn refused(r: &[u32; 9], room: usize) -> u32
 }
 
 // The records of a score, each on the voice that the one before it left.
-fn play(line: &mut [i32; 2112], head: Head, records: &[u8], output: &mut [i32]) -> Played
+fn play(line: &mut [i32; 2112], mut head: Head, records: &[u8], output: &mut [i32]) -> Played
     requires { ⌜ Valid head (now line) ⌝ }
     ensures { λ r. ⌜ PlaysAll (now (records .entry)) (stateOf head (now (line .entry)))
         (now (output .entry)) r (now (output .exit)) ⌝ }
 {
-    let mut h = head;
     let mut t = records;
     let mut index = 0;
     let mut done = 0;
@@ -63,7 +62,7 @@ fn play(line: &mut [i32; 2112], head: Head, records: &[u8], output: &mut [i32]) 
         }
         let wait = as_length(r[2]);
         let e = done + wait;
-        let a = follow(line, h, &r, &mut output[done..e]);
+        let a = follow(line, head, &r, &mut output[done..e]);
         done = e;
         if a.refusal != 0 {
             return Played {
@@ -72,7 +71,7 @@ fn play(line: &mut [i32; 2112], head: Head, records: &[u8], output: &mut [i32]) 
                 written: done,
             };
         }
-        h = a.head;
+        head = a.head;
         t = rest;
         index = index + 1;
     }
@@ -108,8 +107,6 @@ pub fn run(score: &[u8], output: &mut [i32]) -> Played
             written: 0,
         };
     }
-    let v = a.voice;
-    let mut line = v.line;
-    let h = v.head;
-    play(&mut line, h, &score[8..], output)
+    let mut line = a.voice.line;
+    play(&mut line, a.voice.head, &score[8..], output)
 }

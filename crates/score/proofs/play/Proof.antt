@@ -21,13 +21,13 @@ use Rattle.score.proofs.play.Statement.{statement}
 use Rattle.score.proofs.play.Tie as tie
 
 abbrev Inv-loop : tie.InvT-loop
-Inv-loop line₀ records output₀ h₀ t₀ index₀ done₀ r₀ line output h t index done r =
-    Playing records (stateOf h₀ line₀) output₀ (stateOf h line) t index done output
-    × Valid h line
+Inv-loop line₀ head₀ records output₀ t₀ index₀ done₀ r₀ line head output t index done r =
+    Playing records (stateOf head₀ line₀) output₀ (stateOf head line) t index done output
+    × Valid head line
     × (length output ≡ length output₀)
 
 abbrev μ-loop : tie.MeasureT-loop
-μ-loop line₀ records output₀ h₀ t₀ index₀ done₀ r₀ line output h t index done r = length t
+μ-loop line₀ head₀ records output₀ t₀ index₀ done₀ r₀ line head output t index done r = length t
 
 -- ---- before a record, once its number is known
 module _ (c : tie.After-refused Inv-loop μ-loop) where
@@ -42,7 +42,7 @@ module _ (c : tie.After-refused Inv-loop μ-loop) where
   lent = c .before .before .before .before .before .before .before .args .output .now
 
   abbrev voice : State
-  voice = stateOf (c .before .before .before .before .before .loop .h)
+  voice = stateOf (c .before .before .before .before .before .loop .head)
       (c .before .before .before .before .before .loop .line)
 
   abbrev left : List ℕ
@@ -241,7 +241,7 @@ returns-3 c =
     let l = c .before .loop in
     let s = c .before .before .before .args in
     all-played (s .records .now) (stateOf (s .head) (s .line .now)) (s .output .now)
-    (stateOf (l .h) (l .line)) (l .t .now) (l .index) (l .done) (l .output)
+    (stateOf (l .head) (l .line)) (l .t .now) (l .index) (l .done) (l .output)
     (l .inv .0) (c .loop-test .left)
 
 pub play-spec : {M : Type 1} → statement M

@@ -89,7 +89,7 @@ same-length c = search needs
 returns-3 : tie.Need-returns-3
 returns-3 c =
     let p = c .before in
-    let e = p .before .before .before .before .before .before .before in
+    let e = p .before .before .before .before .before in
     let a = e .before .before in
     let s = bytes a in
     let out = a .before .before .before .before .before .before .before .before .args .output .now in
