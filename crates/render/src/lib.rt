@@ -22,20 +22,18 @@ pub struct Part {
 }
 
 // Renders samples until no pluck sounds, one at least; a change may wait.
-fn sounding(line: &mut [i32; 2112], h: Head, buffer: &mut [i32]) -> Part
-    requires { ⌜ Valid h (now line) × (loudest (now buffer) ≤ M) ⌝ }
-    ensures { λ r. ⌜ Rendered (now (buffer .entry)) (stateOf h (now (line .entry))) (now (buffer .exit))
+fn sounding(line: &mut [i32; 2112], mut head: Head, buffer: &mut [i32]) -> Part
+    requires { ⌜ Valid head (now line) × (loudest (now buffer) ≤ M) ⌝ }
+    ensures { λ r. ⌜ Rendered (now (buffer .entry)) (stateOf head (now (line .entry))) (now (buffer .exit))
         (stateOf (r .head) (now (line .exit))) (r .done) ⌝ }
     ensures { λ r. ⌜ Valid (r .head) (now (line .exit)) ⌝ }
     ensures { λ r. ⌜ (0 < length (now (buffer .entry)) → 0 < r .done) ⌝ }
 {
-    let mut head = h;
     let mut i = 0;
     while i < buffer.len() {
         let x = samples::read(buffer, i);
         let r = step(line, head, x);
-        let y = r.y;
-        samples::write(buffer, i, y);
+        samples::write(buffer, i, r.y);
         head = r.head;
         i = i + 1;
         if head.pluck.left == 0 {
@@ -90,14 +88,13 @@ fn stretch(line: &mut [i32; 2112], h: Head, buffer: &mut [i32]) -> Part
 }
 
 // Each sample of the buffer is an input, and becomes the output.
-pub fn render(line: &mut [i32; 2112], h: Head, buffer: &mut [i32]) -> Head
-    requires { ⌜ Valid h (now line) × (loudest (now buffer) ≤ M) ⌝ }
+pub fn render(line: &mut [i32; 2112], mut head: Head, buffer: &mut [i32]) -> Head
+    requires { ⌜ Valid head (now line) × (loudest (now buffer) ≤ M) ⌝ }
     ensures { λ r. ⌜ stateOf r (now (line .exit))
-        ≡ blockAfter (stateOf h (now (line .entry))) (now (buffer .entry)) ⌝ }
-    ensures { λ r. ⌜ now (buffer .exit) ≡ blockOut (stateOf h (now (line .entry))) (now (buffer .entry)) ⌝ }
+        ≡ blockAfter (stateOf head (now (line .entry))) (now (buffer .entry)) ⌝ }
+    ensures { λ r. ⌜ now (buffer .exit) ≡ blockOut (stateOf head (now (line .entry))) (now (buffer .entry)) ⌝ }
     ensures { λ r. ⌜ Valid r (now (line .exit)) ⌝ }
 {
-    let mut head = h;
     let mut i = 0;
     while i < buffer.len() {
         let p = stretch(line, head, &mut buffer[i..]);

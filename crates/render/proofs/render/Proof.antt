@@ -19,15 +19,15 @@ use Rattle.render.proofs.render.Statement.{statement}
 use Rattle.render.proofs.render.Tie as tie
 
 abbrev Inv-loop : tie.InvT-loop
-Inv-loop line₀ buffer₀ head₀ i₀ line buffer head i =
+Inv-loop line₀ head₀ buffer₀ i₀ line head buffer i =
     Rendered buffer₀ (stateOf head₀ line₀) buffer (stateOf head line) i × Valid head line
 
 abbrev μ-loop : tie.MeasureT-loop
-μ-loop line₀ buffer₀ head₀ i₀ line buffer head i = length buffer₀ - i
+μ-loop line₀ head₀ buffer₀ i₀ line head buffer i = length buffer₀ - i
 
 loop-holds : tie.Need-loop-holds Inv-loop μ-loop
 loop-holds c = (
-  begun (c .args .buffer .now) (stateOf (c .args .h) (c .args .line .now)) (c .pre .1),
+  begun (c .args .buffer .now) (stateOf (c .args .head) (c .args .line .now)) (c .pre .1),
   c .pre .0,
 )
 
@@ -54,7 +54,7 @@ module _ (c : tie.After-stretch Inv-loop μ-loop) where
   pass = c .before .before .before .before
 
   abbrev begins : State
-  begins = stateOf (pass .before .args .h) (pass .before .args .line .now)
+  begins = stateOf (pass .before .args .head) (pass .before .args .line .now)
 
   part : Rendered (drop (pass .loop .i) (pass .loop .buffer)) (stateOf (pass .loop .head) (pass .loop .line))
       (c .stretch .last .1 .1 .0)
@@ -119,7 +119,7 @@ returns : tie.Need-returns Inv-loop μ-loop
 returns c =
     let l = c .before .loop in
     let s = c .before .before .args in
-    let v = stateOf (s .h) (s .line .now) in
+    let v = stateOf (s .head) (s .line .now) in
     let u = stateOf (l .head) (l .line) in
     let r = l .inv .0 in (
       all-after (s .buffer .now) v (l .buffer) u (l .i) r (c .loop-test .left),

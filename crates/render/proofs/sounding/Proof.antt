@@ -14,11 +14,11 @@ use Rattle.render.proofs.sounding.Statement.{statement}
 use Rattle.render.proofs.sounding.Tie as tie
 
 abbrev Inv-loop : tie.InvT-loop
-Inv-loop line₀ buffer₀ head₀ i₀ line buffer head i =
+Inv-loop line₀ head₀ buffer₀ i₀ line head buffer i =
     Reached buffer₀ (stateOf head₀ line₀) buffer head line i
 
 abbrev μ-loop : tie.MeasureT-loop
-μ-loop line₀ buffer₀ head₀ i₀ line buffer head i = length buffer₀ - i
+μ-loop line₀ head₀ buffer₀ i₀ line head buffer i = length buffer₀ - i
 
 loop-holds : tie.Need-loop-holds Inv-loop μ-loop
 loop-holds c = started refl (c .pre .1) (c .pre .0)
@@ -41,8 +41,8 @@ step-requires c κs =
 
 write-requires : tie.Need-write-requires Inv-loop μ-loop
 write-requires c κs = (
-  c .before .before .before .before .before .before .loop-test .taken,
-  c .before .before .step .ensures .small,
+  c .before .before .before .before .before .loop-test .taken,
+  c .before .step .ensures .small,
 )
 
 add-i : tie.Need-add-i Inv-loop μ-loop
@@ -51,7 +51,7 @@ add-i c = search needs
 -- a pass of the loop, once its output is stored
 module _ (c : tie.After-write Inv-loop μ-loop) where
   abbrev stepped : tie.After-step Inv-loop μ-loop
-  stepped = c .before .before .before
+  stepped = c .before .before
 
   abbrev pass : tie.At-loop Inv-loop μ-loop
   pass = stepped .before .before .before .before .before
@@ -59,7 +59,7 @@ module _ (c : tie.After-write Inv-loop μ-loop) where
   abbrev start : tie.Start Inv-loop μ-loop
   start = pass .before
 
-  further : Reached (start .args .buffer .now) (stateOf (start .args .h) (start .args .line .now))
+  further : Reached (start .args .buffer .now) (stateOf (start .args .head) (start .args .line .now))
       (c .write .last .0) (stepped .step .result .head) (stepped .step .last .0) (pass .loop .i + 1)
   further =
       more (pass .loop .inv) (stepped .before .before .before .before .loop-test .taken)
