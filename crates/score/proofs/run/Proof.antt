@@ -8,6 +8,8 @@ use lib.ListN.{length, getD, take, drop}
 use Rattle.refusal.specs.Limits.{refusal}
 use Rattle.rule.specs.Calls.{Opening, openLimits}
 use Rattle.rule.specs.State.{State, fresh}
+use Rattle.parts.specs.Struct.{stateOf}
+use Rattle.voice.specs.declared.«open».Voice.{Voice}
 use Rattle.score.specs.Run.{opening, headerLimits}
 use Rattle.score.specs.Played.{PlaysAll}
 use borrow.Rule.Slice.PartAt.{part-to-end}
@@ -34,6 +36,12 @@ module _ (c : tie.After-open) where
   number-is =
       header-whole bytes (c .before .before .before .before .before .before .if1 .left)
       (c .«open» .ensures .number ∙ ap (λ (o : Opening). refusal (openLimits o)) asked)
+
+  abbrev voice : Voice
+  voice = c .«open» .result .voice
+
+  voice-is : stateOf (voice .head) (voice .line) ≡ fresh (opening bytes)
+  voice-is = c .«open» .ensures .state ∙ ap (λ (o : Opening). fresh o) asked
 
 returns : tie.Need-returns
 returns c =
@@ -98,8 +106,7 @@ returns-3 c =
     run-played s out r k (sym (number-is a) ∙ e .if2 .left)
     (subst (λ (t : List ℕ). PlaysAll t (fresh (opening s)) out r k) (part-to-end s 8)
     (subst (λ (v : State). PlaysAll (take (length s - 8) (drop 8 s)) v out r k)
-    (a .«open» .ensures .state ∙ ap (λ (o : Opening). fresh o) (asked a))
-    (p .play .ensures)))
+    (voice-is a) (p .play .ensures)))
 
 pub run-spec : {M : Type 1} → statement M
 run-spec =
