@@ -55,10 +55,10 @@ module _ (s : List ℕ) where
     taken-rest = rw (eq-eqb (recordNumber s) 0 (sym e))
 
 -- ---- a whole record
-pub placed : (s : List ℕ) (k : ℕ) {m at : ℕ} → m ≡ mapOf s → at ≡ before m k
-    → present (bit m k) (word s at) ≡ field s k
+pub placed : (s : List ℕ) (k : ℕ) (m at : ℕ) {x : ℕ} → m ≡ mapOf s → at ≡ before m k
+    → x ≡ present (bit m k) (word s at) → x ≡ field s k
 unfolding field
-placed s k e i = rw (i, e)
+placed s k m at e i r = r ∙ rw (i, e)
 
 pub read-as : (s : List ℕ) {m w l d g a n z : ℕ} → m ≡ mapOf s → w ≡ field s 0 → l ≡ field s 1 → d ≡ field s 2
     → g ≡ field s 3 → a ≡ field s 4 → n ≡ field s 5 → z ≡ field s 6

@@ -76,13 +76,13 @@ returns c =
     let s = a .before .before .before .before .before .before .before .args .s .now in
     let e = a .before .before .before .before .before .before .before .pre .0 in
     read-as s e
-    (c .before .before .before .before .before .before .before .field .ensures ∙ placed s 0 e refl)
-    (c .before .before .before .before .before .before .field2 .ensures ∙ placed s 1 e (length-at a))
-    (c .before .before .before .before .before .field3 .ensures ∙ placed s 2 e (delay-at a))
-    (c .before .before .before .before .field4 .ensures ∙ placed s 3 e (loss-at a))
-    (c .before .before .before .field5 .ensures ∙ placed s 4 e (amplitude-at a))
-    (c .before .before .field6 .ensures ∙ placed s 5 e (count-at a))
-    (c .before .field7 .ensures ∙ placed s 6 e (seed-at a))
+    (placed s 0 _ 1 e refl (c .before .before .before .before .before .before .before .field .ensures))
+    (placed s 1 _ _ e (length-at a) (c .before .before .before .before .before .before .field2 .ensures))
+    (placed s 2 _ _ e (delay-at a) (c .before .before .before .before .before .field3 .ensures))
+    (placed s 3 _ _ e (loss-at a) (c .before .before .before .before .field4 .ensures))
+    (placed s 4 _ _ e (amplitude-at a) (c .before .before .before .field5 .ensures))
+    (placed s 5 _ _ e (count-at a) (c .before .before .field6 .ensures))
+    (placed s 6 _ _ e (seed-at a) (c .before .field7 .ensures))
 
 pub fill-spec : {M : Type 1} → statement M
 fill-spec =
