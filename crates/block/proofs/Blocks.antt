@@ -1,8 +1,8 @@
 -- A block's number, what a refused call leaves, and what an accepted block does, in the contracts' terms.
 -- Assumes nothing.
-use mathlib.Core.Path.{_≡_, refl, sym, _∙_}
+use mathlib.Core.Path.{_≡_, sym, _∙_}
 use mathlib.Core.Bool.{false}
-use mathlib.Core.List.{List, [], _∷_}
+use mathlib.Core.List.{List}
 use Prim.Native.Nat.{ℕ, _≤_}
 use native.Mathlib.Omega.{arith}
 use borrow.Author.Tests.{eq-eqb, ne-eqb, leb-false}
@@ -11,11 +11,10 @@ use lib.IntN.{ℤ}
 use lib.ListN.{length}
 use Rattle.integer.specs.Rounding.{M}
 use Rattle.samples.specs.Samples.{loudest}
-use Rattle.refusal.specs.Limits.{Limit}
-use Rattle.refusal.proofs.Returned.{here, past, kept-is, is-met}
 use Rattle.rule.specs.Voice.{Voice}
 use Rattle.rule.specs.Calls.{Call, block, number, done}
 use Rattle.rule.specs.State.{blockAfter, blockOut, put}
+use Rattle.rule.proofs.Refusals.{refuses, quiet, unquiet}
 use Rattle.parts.specs.declared.Head.{Head}
 use Rattle.parts.specs.Struct.{voiceOf, stateOf}
 use Rattle.parts.specs.Valid.{Valid}
@@ -24,29 +23,16 @@ use Rattle.parts.proofs.Called.{call-refused, call-accepted}
 
 -- ---- a block's number
 module _ (v : Voice) (xs : List ℤ) (n : ℕ) where
-  lengths : Limit
-  lengths = record { number = 9; low = n; value = length xs; high = n }
-
-  samples : Limit
-  samples = record { number = 10; low = 0; value = loudest xs; high = M }
-
   pub differ : (length xs ≡ n → ⊥) → 9 ≡ number v (block xs n)
-  unfolding number lengths samples
-  differ f = sym (here lengths (samples ∷ []) (is-met lengths (λ k. f (omega (arith, k .least, k .most)))))
+  differ f = sym (refuses .blocks v xs n .differ .1 f)
 
   module _ (e : length xs ≡ n) where
     pub too-loud : leb (loudest xs) M ≡ false → 10 ≡ number v (block xs n)
-    unfolding number lengths samples
     too-loud f =
-        let met = is-met samples (λ k. omega (arith, k .most, leb-false (loudest xs) M f)) in
-        past lengths (samples ∷ []) (kept-is lengths (record { least = omega arith; most = omega arith }))
-        (sym (here samples [] met))
+        sym (refuses .blocks v xs n .input .1 (e, λ w. omega (arith, unquiet w, leb-false (loudest xs) M f)))
 
     pub plays : loudest xs ≤ M → 0 ≡ number v (block xs n)
-    unfolding number lengths samples
-    plays h =
-        past lengths (samples ∷ []) (kept-is lengths (record { least = omega arith; most = omega arith }))
-        (past samples [] (kept-is samples (record { least = omega arith; most = h })) refl)
+    plays h = sym (refuses .blocks v xs n .accepted .1 (e, quiet xs h))
 
 -- ---- a refused call
 module _ (h : Head) (l : List ℤ) (c : Call) where

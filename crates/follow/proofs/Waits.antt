@@ -13,11 +13,11 @@ use Rattle.integer.specs.Rounding.{M}
 use Rattle.samples.specs.Samples.{loudest}
 use Rattle.rule.specs.Calls.{Call, block, announce, instant, number, done, inputs}
 use Rattle.rule.specs.State.{State, step, blockAfter, blockOut, call, put, puts, from}
+use Rattle.rule.proofs.Refusals.{refuses, quiet}
 use Rattle.parts.specs.declared.Head.{Head}
 use Rattle.parts.specs.Struct.{stateOf}
 use Rattle.parts.specs.Valid.{Valid}
 use Rattle.parts.proofs.Called.{call-accepted}
-use Rattle.block.proofs.Blocks.{plays}
 use Rattle.follow.specs.Follow.{value, stands, absent, waitCalls}
 use Rattle.follow.specs.Follow.{lossCalls, change, changeCalls, pluckCalls}
 use Rattle.follow.specs.Follow.{lengthTo, delayTo, result, then, actCalls, recordCalls}
@@ -85,7 +85,9 @@ module _ (v : State) (n : ℕ) where
 
   accepted : number (v .voice) (block zeros n) ≡ 0
   unfolding zeros
-  accepted = sym (plays (v .voice) zeros n (length-replicate n (pos 0)) (zeros-quiet n))
+  accepted =
+      refuses .blocks (v .voice) zeros n .accepted .1
+      (length-replicate n (pos 0), quiet zeros (zeros-quiet n))
 
   pub wait-from : call v (block (replicate n (pos 0)) n) ≡ blockAfter v (replicate n (pos 0))
   unfolding zeros done

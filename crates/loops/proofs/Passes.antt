@@ -26,7 +26,8 @@ pub started : {h k : Head} {l xs : List ℤ} → k ≡ h → loudest xs ≤ M �
 started {h} {l} {xs} e q g =
     subst (λ (k : Head). Reached xs (stateOf h l) xs k l 0) (sym e) (begun xs (stateOf h l) q, g)
 
-module _ {xs : List ℤ} {v : State} {b : List ℤ} {h : Head} {l : List ℤ} {i : ℕ} (t : Reached xs v b h l i) where
+module _ {xs : List ℤ} {v : State} {b : List ℤ} {h : Head} {l : List ℤ} {i : ℕ}
+    (t : Reached xs v b h l i) where
   -- x is the sample that comes next
   module _ (o : i < length b) {x : ℤ} (e : x ≡ getD b i (pos 0)) where
     pub reads : natAbs x ≤ M

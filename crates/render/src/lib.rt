@@ -92,7 +92,8 @@ pub fn render(line: &mut [i32; 2112], mut head: Head, buffer: &mut [i32]) -> Hea
     requires { ⌜ Valid head (now line) × (loudest (now buffer) ≤ M) ⌝ }
     ensures { λ r. ⌜ stateOf r (now (line .exit))
         ≡ blockAfter (stateOf head (now (line .entry))) (now (buffer .entry)) ⌝ }
-    ensures { λ r. ⌜ now (buffer .exit) ≡ blockOut (stateOf head (now (line .entry))) (now (buffer .entry)) ⌝ }
+    ensures { λ r. ⌜ now (buffer .exit)
+        ≡ blockOut (stateOf head (now (line .entry))) (now (buffer .entry)) ⌝ }
     ensures { λ r. ⌜ Valid r (now (line .exit)) ⌝ }
 {
     let mut i = 0;

@@ -29,11 +29,11 @@ none-waits none = (λ b. refl, λ e. record { least = omega arith; most = omega 
 none-waits (some w) =
     (λ b. absurd (omega (arith, b .most)), λ e. let z : _≡_ {A = ℕ} 0 1 = cc in absurd (omega arith))
 
-quiet : (xs : List ℤ) → loudest xs ≤ M → Within M xs
+pub quiet : (xs : List ℤ) → loudest xs ≤ M → Within M xs
 quiet [] h = none
 quiet (x ∷ xs) h = more {x = x} (omega arith) (quiet xs (omega arith))
 
-unquiet : {xs : List ℤ} → Within M xs → loudest xs ≤ M
+pub unquiet : {xs : List ℤ} → Within M xs → loudest xs ≤ M
 unquiet none = omega arith
 unquiet (more p h) = omega (arith, unquiet h)
 

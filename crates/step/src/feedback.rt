@@ -1,5 +1,5 @@
-// The loop of the string: the filter's output and the last one, times the loop gain, are mixed with what comes in
-// and go into the line. Contracts cite specs/Sample.antt.
+// The loop of the string: the filter's output and the last one, times the loop gain, are mixed with what comes
+// in and go into the line. Contracts cite specs/Sample.antt.
 ghost use mathlib.Core.Path.{_≡_};
 ghost use Prim.Native.Nat.{_≤_, _<_, _^_};
 ghost use lib.IntN.{pos, natAbs, _+ℤ_, _*ℤ_};

@@ -41,8 +41,8 @@ loop-holds c =
     = subst (λ (w : Waiting). Waiting-valid (h .filter .tuning .order) (h .advance) w) (s .pre .1 .1)
     (s .pre .0 .0 .fit .waiting) in
     let z : t + 0 ≡ t = omega arith in
-    started (due-self h (s .pre .1 .0) (s .pre .1 .0 ∙ sym (w .same)) (s .pre .1 .1) z (w .fewer)) (s .pre .0 .1)
-    (s .pre .0 .0)
+    started (due-self h (s .pre .1 .0) (s .pre .1 .0 ∙ sym (w .same)) (s .pre .1 .1) z (w .fewer))
+    (s .pre .0 .1) (s .pre .0 .0)
 
 -- a pass of the loop, once its sample is read: the change still waits
 module _ (c : tie.After-read Inv-loop μ-loop) where
@@ -72,7 +72,8 @@ module _ (c : tie.After-read Inv-loop μ-loop) where
       due-later quiet eliminator (start .args .taken + pass .loop .i)
       (omega (arith, start .pre .0 .2, pass .loop .inv .0 .long, c .before .before .loop-test .taken))
 
-  so-far : Reached (start .args .buffer .now) begins (pass .loop .buffer) head (pass .loop .line) (pass .loop .i)
+  so-far : Reached (start .args .buffer .now) begins (pass .loop .buffer) head (pass .loop .line)
+      (pass .loop .i)
   so-far = rw waits at (pass .loop .inv)
 
   valid : Valid head (pass .loop .line)
@@ -154,7 +155,8 @@ loop-again c =
     let same-next = as-anew (s .args .e) (valid r .fit .waiting .tuned) (m .tuned) (m .tuning) in
     let z : (s .args .taken + l .i) + 1 ≡ s .args .taken + (l .i + 1) = omega arith in
     more (so-far r) (r .before .before .loop-test .taken) (r .read .ensures)
-    (led-steps h (s .pre .1 .2) made m (valid r)) (wrote .write .ensures) (due-as h y at same-filter same-next z)
+    (led-steps h (s .pre .1 .2) made m (valid r)) (wrote .write .ensures)
+    (due-as h y at same-filter same-next z)
 
 anew-requires-3 : tie.Need-anew-requires-3 Inv-loop μ-loop
 anew-requires-3 c κs = search needs

@@ -29,7 +29,8 @@ loop-holds : tie.Need-loop-holds Inv-loop μ-loop
 loop-holds c =
     let s = c .before .before in
     let h = s .args .h in
-    started (carried-self h (anew-self (h .filter) (s .pre .1 .0)) (s .pre .1 .1)) (s .pre .0 .1) (s .pre .0 .0)
+    started (carried-self h (anew-self (h .filter) (s .pre .1 .0)) (s .pre .1 .1)) (s .pre .0 .1)
+    (s .pre .0 .0)
 
 -- a pass of the loop, once its sample is read
 module _ (c : tie.After-read Inv-loop μ-loop) where
