@@ -49,10 +49,14 @@ same-sound h x g =
     ap (λ (i : ℤ). h .y ++ (i ∷ []))
     (output-alike (h .voice) (back (newest (h .s))) (ago h) (g .valid) (alike h))
 
+out-more : (v : State) (x : ℤ) (xs : List ℤ) → blockOut v (x ∷ xs) ≡ sounds v ∷ blockOut (S.step v x) xs
+out-more v x xs = refl
+
 same-out : (xs : List ℤ) (h : History) → Sound h → h .y ++ blockOut (held h) xs ≡ H.through h xs .y
 same-out [] h g = append-nil (h .y)
 same-out (x ∷ xs) h g =
-    sym (append-assoc (h .y) (sounds (held h) ∷ []) (blockOut (S.step (held h) x) xs))
+    ap (λ (l : List ℤ). h .y ++ l) (out-more (held h) x xs)
+    ∙ sym (append-assoc (h .y) (sounds (held h) ∷ []) (blockOut (S.step (held h) x) xs))
     ∙ ap (λ (l : List ℤ). l ++ blockOut (S.step (held h) x) xs) (same-sound h x g)
     ∙ ap (λ (v : State). H.step h x .y ++ blockOut v xs) (same-step h x g)
     ∙ same-out xs (H.step h x) (step-sound h x g)
