@@ -8,12 +8,13 @@ use native.Mathlib.Omega.{arith}
 use borrow.Author.Tests.{eq-eqb}
 use lib.Dec.{eqb}
 use lib.IntN.{ℤ, pos}
-use lib.ListN.{length, replicate, length-replicate}
+use lib.ListN.{replicate, length-replicate}
 use Rattle.integer.specs.Rounding.{M}
 use Rattle.samples.specs.Samples.{loudest}
 use Rattle.rule.specs.Calls.{Call, block, announce, instant, number, done, inputs}
-use Rattle.rule.specs.State.{State, step, blockAfter, blockOut, call, put, puts, from}
+use Rattle.rule.specs.State.{State, blockAfter, blockOut, call, put, puts, from}
 use Rattle.rule.proofs.Refusals.{refuses, quiet}
+use Rattle.rule.proofs.Puts.{put-none}
 use Rattle.parts.specs.declared.Head.{Head}
 use Rattle.parts.specs.Struct.{stateOf}
 use Rattle.parts.specs.Valid.{Valid}
@@ -29,17 +30,9 @@ pub data Still : List Call → Type 0 where
   none : Still []
   more : {c : Call} {cs : List Call} → inputs c ≡ [] → Still cs → Still (c ∷ cs)
 
-put-still : (v : State) (c : Call) → inputs c ≡ [] → put v c ≡ []
-unfolding put
-put-still v c e = rw e (go (eqb (number (v .voice) c) 0))
-  where
-    go : (b : Bool) → cond {A = List ℤ} b [] [] ≡ []
-    go true = refl
-    go false = refl
-
 pub puts-still : (v : State) {cs : List Call} → Still cs → puts v cs ≡ []
 puts-still v none = refl
-puts-still v (more {c} e s) = rw (put-still v c e) (puts-still (call v c) s)
+puts-still v (more {c} e s) = rw (put-none v c e) (puts-still (call v c) s)
 
 still-append : {cs ds : List Call} → Still cs → Still ds → Still (cs ++ ds)
 still-append none t = t
@@ -114,10 +107,6 @@ record-puts r v =
     ∙ append-nil (puts v (waitCalls r v))
     ∙ append-nil (put v (block (replicate (value r 0) (pos 0)) (value r 0)))
     ∙ wait-puts v (value r 0)
-
-pub out-length : (v : State) (xs : List ℤ) → length (blockOut v xs) ≡ length xs
-out-length v [] = refl
-out-length v (x ∷ xs) = ap suc (out-length (step v x) xs)
 
 -- a wait that was rendered over zeros
 pub wait-does : (r : List ℕ) (h : Head) (l : List ℤ) (g : Head) (k : List ℤ) {xs : List ℤ}

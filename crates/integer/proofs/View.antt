@@ -6,7 +6,7 @@ use mathlib.Core.Bool.{Bool, true, false, not, cond}
 use Prim.Native.Nat.{ℕ, zero, suc, _+_, _*_, _-_, _^_, _≤_, _<_}
 use native.Mathlib.Omega.{arith}
 use lib.IntN.{ℤ, pos, negsuc, negℤ, natAbs, subℕ, _+ℤ_, _-ℤ_, _*ℤ_}
-use lib.Signed.{mag, _≤ℤ_, _<ℤ_, leZ, ltZ, ltZ-yes, ltZ-no, leZ-yes, natAbs-le}
+use lib.Signed.{mag, nonNeg, _≤ℤ_, _<ℤ_, leZ, ltZ, ltZ-yes, ltZ-no, leZ-yes, natAbs-le}
 use lib.Dec.{T, ltb, ltb→lt, lt→ltb, leb→le, le→leb}
 use borrow.Author.Tests.{ltb-true, ltb-false, leb-false}
 use mir.Syntax.{Width}
@@ -135,3 +135,8 @@ leZ-false (negsuc a) (pos b) e = absurd (subst T e tt)
 leZ-false (negsuc a) (negsuc b) e = omega (arith, leb-false)
 
 pub ruleset Zs = (arith, ≤v, v≤, <v, v<, ≡v, v≡, ltZ-true, ltZ-false, leZ-true, leZ-false, fit-up, fit-dn)
+
+-- a number that is not below 0
+pub not-below : (z : ℤ) → ltZ z (pos 0) ≡ false → T (nonNeg z)
+not-below (pos n) e = tt
+not-below (negsuc n) e = absurd (omega Zs)

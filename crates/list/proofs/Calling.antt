@@ -10,6 +10,7 @@ use lib.IntN.{ℤ}
 use lib.ListN.{length, take, drop, take-append-drop}
 use Rattle.rule.specs.Calls.{Call, inputs, number}
 use Rattle.rule.specs.State.{State, told, blockOut, put}
+use Rattle.rule.proofs.Puts.{put-none}
 use Rattle.parts.specs.declared.Head.{Head}
 use Rattle.parts.specs.Struct.{stateOf, voiceOf}
 use Rattle.parts.specs.Called.{lent}
@@ -24,14 +25,6 @@ still (suc (suc zero)) a b c xs h k = refl
 still (suc (suc (suc zero))) a b c xs h k = refl
 still (suc (suc (suc (suc zero)))) a b c xs h k = refl
 still (suc (suc (suc (suc (suc n))))) a b c xs h k = absurd (omega arith)
-
-pub put-none : (v : State) (c : Call) → inputs c ≡ [] → put v c ≡ []
-unfolding put
-put-none v c e = go (eqb (number (v .voice) c) 0)
-  where
-    go : (b : Bool) → cond b (blockOut (told v c) (inputs c)) [] ≡ []
-    go true = ap (λ (xs : List ℤ). blockOut (told v c) xs) e
-    go false = refl
 
 pub over-still : (v : State) (kind a b c : ℕ) (xs before : List ℤ) → 0 < kind → kind ≤ 4
     → before ≡ over (put v (called kind a b c xs)) before

@@ -2,32 +2,24 @@
 -- Assumes nothing.
 use mathlib.Core.Path.{_≡_, refl, sym, ap, _∙_}
 use mathlib.Core.Bool.{Bool, true, false, cond}
-use mathlib.Core.List.{List, [], _∷_}
+use mathlib.Core.List.{List, []}
 use Prim.Native.Nat.{ℕ, zero, suc, _≤_}
 use native.Mathlib.Omega.{arith}
 use borrow.Author.Tests.{eqb-true, ne-eqb}
 use lib.Dec.{eqb}
 use lib.IntN.{ℤ}
 use lib.ListN.{length, take}
-use Rattle.refusal.specs.Returned.{AllKept, more}
-use Rattle.refusal.proofs.Returned.{returned}
 use Rattle.rule.specs.Voice.{Voice}
-use Rattle.rule.specs.Calls.{Call, block, limits, number, inputs}
-use Rattle.rule.specs.State.{State, step, told, blockOut, put}
+use Rattle.rule.specs.Calls.{Call, block, number, inputs}
+use Rattle.rule.specs.State.{State, told, blockOut, put}
+use Rattle.rule.proofs.Refusals.{refuses}
+use Rattle.rule.proofs.Puts.{put-none, length-out}
 use Rattle.list.specs.Words.{called, lends}
-use Rattle.list.proofs.Calling.{still, put-none}
-
-length-out : (v : State) (xs : List ℤ) → length (blockOut v xs) ≡ length xs
-length-out v [] = refl
-length-out v (x ∷ xs) = ap suc (length-out (step v x) xs)
+use Rattle.list.proofs.Calling.{still}
 
 -- an accepted block's input and output are as long as each other
 matched : (v : Voice) (xs : List ℤ) (n : ℕ) → number v (block xs n) ≡ 0 → length xs ≡ n
-unfolding number
-matched v xs n e = go (returned (limits v (block xs n)) tt .accepted .0 e)
-  where
-    go : AllKept (limits v (block xs n)) → length xs ≡ n
-    go (more k ks) = omega (arith, k .least, k .most)
+matched v xs n e = refuses .blocks v xs n .accepted .0 e .0
 
 -- the number 0, or another, that a call returns decides
 pub put-length : (v : State) (kind a b c : ℕ) (xs : List ℤ) → kind ≤ 4

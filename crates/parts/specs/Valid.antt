@@ -1,4 +1,4 @@
--- The invariant of a voice, which Open gives and every call hands on, refused or not: all that one requires.
+-- The invariant of a voice, which Open gives and each call hands on, refused or not: all that a call requires.
 -- Definitions alone. Assumes nothing.
 use mathlib.Core.Path.{_≡_}
 use mathlib.Core.List.{List}

@@ -52,7 +52,7 @@ noteLength L = record { number = 13; low = 1; value = up L; high = 2048 }
 abbrev pub limits : ℕ → ℕ → ℕ → List Limit
 limits N fs m = order N ∷ rate fs ∷ note m ∷ noteLength (splitL N (period fs m)) ∷ []
 
--- what comes back with a number, where T is the period: L and d with 0, else "L and d come back 0"
+-- what comes back with a number, where T is the period: L and d where it is 0, else "L and d come back 0"
 abbrev pub answer : ℕ → ℤ → ℕ → Pitch
 answer N T number =
     cond (eqb number 0)

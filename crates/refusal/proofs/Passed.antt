@@ -6,7 +6,7 @@ use mathlib.Core.List.{List, [], _∷_, _++_}
 use lib.Dec.{T}
 use Rattle.refusal.specs.Limits.{Limit, outside, refusal}
 use Rattle.refusal.specs.Returned.{Kept, AllKept, none, more, numbered}
-use Rattle.refusal.proofs.Returned.{past, kept-is, returned}
+use Rattle.refusal.proofs.Returned.{past, kept-is, passed}
 
 -- ---- a list of tests before another
 pub stops : (ls ms : List Limit) → (refusal ls ≡ 0 → ⊥) → refusal (ls ++ ms) ≡ refusal ls
@@ -22,9 +22,6 @@ stops (l ∷ ls) ms f = go (outside (l .value) (l .low) (l .high)) (stops ls ms)
 kept-passes : {ls : List Limit} (ms : List Limit) → AllKept ls → refusal (ls ++ ms) ≡ refusal ms
 kept-passes ms none = refl
 kept-passes ms (more {l} {ls} k ks) = sym (past l (ls ++ ms) (kept-is l k) (sym (kept-passes ms ks)))
-
-pub passed : (ls : List Limit) → T (numbered ls) → refusal ls ≡ 0 → AllKept ls
-passed ls t e = returned ls t .accepted .0 e
 
 pub passes : (ls ms : List Limit) → T (numbered ls) → refusal ls ≡ 0 → refusal (ls ++ ms) ≡ refusal ms
 passes ls ms t e = kept-passes ms (passed ls t e)

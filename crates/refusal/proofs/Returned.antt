@@ -80,9 +80,9 @@ other n [] post l t e = unlike n l post t e
 other n (k ∷ pre) post l t e = other n pre post l (unlikes n k (pre ++ l ∷ post) t) e
 
 -- ---- success
-all-kept : (ls : List Limit) → T (numbered ls) → refusal ls ≡ 0 → AllKept ls
-all-kept [] t e = none
-all-kept (l ∷ ls) t e = go (met l) refl (all-kept ls (others l ls t))
+pub passed : (ls : List Limit) → T (numbered ls) → refusal ls ≡ 0 → AllKept ls
+passed [] t e = none
+passed (l ∷ ls) t e = go (met l) refl (passed ls (others l ls t))
   where
     go : (b : Bool) → met l ≡ b → (refusal ls ≡ 0 → AllKept ls) → AllKept (l ∷ ls)
     go true i f = absurd (omega (arith, sym (here l ls i) ∙ e, above l ls t))
@@ -122,5 +122,5 @@ returned ls t = record {
     λ i. told post l pre (subst (λ (xs : List Limit). T (numbered xs)) e t) (ap refusal (sym e) ∙ i),
     λ p. ap refusal e ∙ sym (tells post l (p .0) (p .1)),
   );
-  accepted = (all-kept ls t, λ ks. sym (none-met ks));
+  accepted = (passed ls t, λ ks. sym (none-met ks));
 }

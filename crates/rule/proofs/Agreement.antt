@@ -15,6 +15,7 @@ use Rattle.rule.specs.State.{State, back, blockAfter, blockOut, puts, pu
 use Rattle.rule.specs.State as S
 use Rattle.rule.specs.Demands.{newest, Agrees}
 use Rattle.rule.proofs.Sound.{Sound, step-sound, told-sound, call-sound, fresh-sound, after-sound}
+use Rattle.rule.proofs.States.{same-state}
 use Rattle.rule.proofs.Line.{newest-none, newest-snoc, back-is}
 use Rattle.rule.proofs.Alike.{Alike, output-alike, written-alike, stepped-alike, done-alike}
 
@@ -26,10 +27,6 @@ alike : (h : History) → Alike (back (newest (h .s))) (ago h)
 alike h = back-is (h .s)
 
 -- ---- a step and a block
-same-state : {v u : Voice} {l k : List ℤ} → v ≡ u → l ≡ k
-    → _≡_ {A = State} (record { voice = v; line = l }) (record { voice = u; line = k })
-same-state e i = cc
-
 same-step : (h : History) (x : ℤ) → Sound h → S.step (held h) x ≡ held (H.step h x)
 unfolding S.step H.step
 same-step h x g =

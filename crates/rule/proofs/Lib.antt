@@ -8,6 +8,7 @@ pub mod Accepted
 pub mod Voices
 pub mod Opened
 pub mod States
+pub mod Puts
 pub mod New
 pub mod Nearness
 pub mod Walk

@@ -12,6 +12,7 @@ use borrow.Author.Tests.{eqb-true}
 use Rattle.integer.specs.Rounding.{M}
 use Rattle.allpass.specs.Bounds.{Within, none, more}
 use Rattle.allpass.proofs.Bounds.{rest-within}
+use Rattle.rule.specs.Voice.{Voice}
 use Rattle.rule.specs.Calls.{Call, Opening, number, inputs}
 use Rattle.rule.specs.State.{State, back, step, blockAfter, told, call, silence, fresh, from}
 use Rattle.rule.specs.Valid.{Samples, Whole}
@@ -20,6 +21,10 @@ use Rattle.rule.proofs.Line.{length-silence}
 use Rattle.rule.proofs.Filters.{written-within}
 use Rattle.rule.proofs.Voices.{stepped-valid, done-valid}
 use Rattle.rule.proofs.Opened.{opened-valid}
+
+pub same-state : {v u : Voice} {l k : List ℤ} → v ≡ u → l ≡ k
+    → _≡_ {A = State} (record { voice = v; line = l }) (record { voice = u; line = k })
+same-state e i = cc
 
 -- a line of samples is read so
 pub back-samples : {l : List ℤ} → Within M l → Samples (back l)

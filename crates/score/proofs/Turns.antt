@@ -17,7 +17,8 @@ use Rattle.score.specs.Run.{ends, joined, playLimits, records, allRecord
 use Rattle.score.specs.Played.{over, Plays}
 use Rattle.record.proofs.Reading.{taken-rest}
 use Rattle.follow.proofs.Sequence.{from-append, puts-append}
-use Rattle.follow.proofs.Waits.{record-puts, out-length}
+use Rattle.rule.proofs.Puts.{length-out}
+use Rattle.follow.proofs.Waits.{record-puts}
 use Rattle.score.proofs.Playing.{Playing, has-room, later, opens, played-stops, played-all, plays-as}
 
 pub over-length : (ys out : List ℤ) → length ys ≤ length out → length (over ys out) ≡ length out
@@ -47,7 +48,7 @@ module _ (s : List ℕ) (u : State) (out : List ℤ) (v : State) (t : List ℕ) 
   pub wait-long : length ys ≡ value (fields t) 0
   wait-long =
       ap length (i ∙ record-puts (fields t) v)
-      ∙ out-length v (replicate (value (fields t) 0) (pos 0))
+      ∙ length-out v (replicate (value (fields t) 0) (pos 0))
       ∙ length-replicate (value (fields t) 0) (pos 0)
 
   more : puts u (p .calls) ++ ys ≡ puts u (p .calls ++ cs)

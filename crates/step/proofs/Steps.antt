@@ -11,7 +11,8 @@ use Rattle.allpass.specs.Bounds.{Within, more}
 use Rattle.line.specs.Ring.{ring}
 use Rattle.rule.specs.Voice.{Voice, output, written, heard, fedToo, settled, stepped}
 use Rattle.rule.specs.State as Rule
-use Rattle.rule.specs.State.{State, back}
+use Rattle.rule.specs.State.{back}
+use Rattle.rule.proofs.States.{take-within, same-state}
 use Rattle.parts.specs.declared.Waiting.{Waiting}
 use Rattle.parts.specs.declared.Waiting.the-variants.{Idle, Announced}
 use Rattle.parts.specs.declared.Pluck.{Pluck}
@@ -20,7 +21,6 @@ use Rattle.step.specs.declared.sound.Sounded.{Sounded}
 use Rattle.step.specs.declared.feedback.Circulated.{Circulated}
 use Rattle.parts.specs.Struct.{waitingOf, voiceOf}
 use Rattle.parts.specs.Valid.{Waiting-valid, Fit, Valid}
-use Rattle.parts.proofs.Within.{take-within}
 use Rattle.step.specs.Sample.{Reads, previewed, Sounds, Settles, Circulates, Steps}
 
 -- ---- the length that the eliminator reads at
@@ -58,10 +58,6 @@ heardOf h r p = record {
   pluck = p;
   at = r .at;
 }
-
-state-as : {v u : Voice} {l k : List ℤ} → v ≡ u → l ≡ k
-    → _≡_ {A = State} (record { voice = v; line = l }) (record { voice = u; line = k })
-state-as e i = rw (e, i)
 
 module _ {h : Head} {l : List ℤ} (v : Valid h l) {x : ℤ} {p : Sounded} {r : Circulated} {k : List ℤ}
     (o : Sounds (h .pluck) p)
@@ -107,7 +103,7 @@ module _ {h : Head} {l : List ℤ} (v : Valid h l) {x : ℤ} {p : Sounded} {r : 
     y = heard-y;
     small = c .hears .small;
     state =
-        state-as
+        same-state
         (z .voice q e ∙ ap (λ (v : Voice). settled v (fedToo (waitingOf (h .waiting)) q)) heard-voice)
         (ap (λ (at : ℕ). ring at k) (z .place) ∙ heard-line);
     valid = record {

@@ -52,7 +52,3 @@ module _ (before : List ℕ) (at : ℕ) (after : List ℕ) (r : ℕ) where
       → Signed z before at after r
   signed-above (pos n) e w = w
   signed-above (negsuc n) e w = absurd (omega Zs)
-
-pub above : (z : ℤ) → ltZ z (pos 0) ≡ false → T (nonNeg z)
-above (pos n) e = tt
-above (negsuc n) e = absurd (omega Zs)

@@ -8,7 +8,7 @@ use Rattle.refusal.specs.Orders.{delay}
 use Rattle.rule.specs.Calls.{changeLimits}
 use Rattle.rule.specs.Tests.{long}
 use Rattle.parts.specs.Struct.{voiceOf}
-use Rattle.refusal.proofs.Passed.{passed}
+use Rattle.refusal.proofs.Returned.{passed}
 use Rattle.parts.proofs.Tunes.{change-tunes}
 use Rattle.change.proofs.refused.Statement.{statement}
 use Rattle.change.proofs.refused.Tie as tie

@@ -1,7 +1,7 @@
 -- `integer::magnitude` meets its contract: by the sign of x.
 -- Assumes nothing.
 use mathlib.Core.Path.{_≡_}
-use mathlib.Core.Bool.{true, false}
+use mathlib.Core.Bool.{true}
 use native.Mathlib.Omega.{arith}
 use lib.Dec.{T}
 use lib.IntN.{ℤ, pos, negsuc, natAbs, _-ℤ_}
@@ -9,13 +9,9 @@ use lib.Signed.{ltZ, nonNeg}
 use mir.Syntax.{w32, w64}
 use mir.Val.{Fits, SFits}
 use mir.Facts.{toZ-ofZ, sfits-widen}
-use Rattle.integer.proofs.View.{Zs, absv, -v, vfit, fits-abs}
+use Rattle.integer.proofs.View.{Zs, not-below, absv, -v, vfit, fits-abs}
 use Rattle.integer.proofs.magnitude.Statement.{statement}
 use Rattle.integer.proofs.magnitude.Tie as tie
-
-above : (z : ℤ) → ltZ z (pos 0) ≡ false → T (nonNeg z)
-above (pos n) e = tt
-above (negsuc n) e = absurd (omega Zs)
 
 turned : (z : ℤ) → ltZ z (pos 0) ≡ true → T (nonNeg (pos 0 -ℤ z)) × (natAbs (pos 0 -ℤ z) ≡ natAbs z)
 turned (pos n) e = absurd (omega Zs)
@@ -59,7 +55,7 @@ cast-result-2 c =
     let f = c .before .fits .x in
     let x = c .before .args .x in
     rw (toZ-ofZ f, toZ-ofZ (wide f))
-    (above x (rw (toZ-ofZ f, toZ-ofZ (wide f)) at (c .if1 .left)), unsigned x f)
+    (not-below x (rw (toZ-ofZ f, toZ-ofZ (wide f)) at (c .if1 .left)), unsigned x f)
 
 returns-2 : tie.Need-returns-2
 returns-2 c = let f = c .before .fits .x in rw (toZ-ofZ f, toZ-ofZ (wide f))

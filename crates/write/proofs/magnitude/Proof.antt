@@ -9,8 +9,8 @@ use lib.Signed.{ltZ}
 use mir.Syntax.{w64}
 use mir.Val.{SFits, toZ, ofZ}
 use mir.Facts.{toZ-ofZ}
-use Rattle.integer.proofs.View.{fits-abs}
-use Rattle.write.proofs.Signs.{more-fits, turned-fits, turned-up, bounded, magnitude, above}
+use Rattle.integer.proofs.View.{fits-abs, not-below}
+use Rattle.write.proofs.Signs.{more-fits, turned-fits, turned-up, bounded, magnitude}
 use Rattle.write.proofs.magnitude.Statement.{statement}
 use Rattle.write.proofs.magnitude.Tie as tie
 
@@ -58,7 +58,7 @@ cast-result-2 : tie.Need-cast-result-2
 cast-result-2 c =
     let x = c .before .before .before .before .before .args .x .n in
     let f : SFits w64 x = record { sfits = c .struct-told3 .given .0 .1 } in
-    rw (toZ-ofZ f) (above x (rw (toZ-ofZ f) at (c .before .before .if1 .left)), omega (arith, fits-abs f))
+    rw (toZ-ofZ f) (not-below x (rw (toZ-ofZ f) at (c .before .before .if1 .left)), omega (arith, fits-abs f))
 
 returns-2 : tie.Need-returns-2
 returns-2 c = search needs

@@ -6,7 +6,8 @@ use borrow.Author.Needs.{needs}
 use Rattle.refusal.specs.Limits.{refusal}
 use Rattle.rule.specs.Calls.{loss, number, done}
 use Rattle.rule.specs.Tests.{lossy}
-use Rattle.refusal.proofs.Passed.{passed, first-kept}
+use Rattle.refusal.proofs.Returned.{passed}
+use Rattle.refusal.proofs.Passed.{first-kept}
 use Rattle.parts.proofs.Called.{called-refused, called, fit-as}
 use Rattle.voice.proofs.calls.loss.Statement.{statement}
 use Rattle.voice.proofs.calls.loss.Tie as tie

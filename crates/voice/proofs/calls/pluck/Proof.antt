@@ -7,7 +7,8 @@ use borrow.Author.Needs.{needs}
 use Rattle.refusal.specs.Limits.{Limit, refusal}
 use Rattle.rule.specs.Calls.{Call, pluck, number, done}
 use Rattle.rule.specs.Tests.{strong, lasting}
-use Rattle.refusal.proofs.Passed.{passed, first-kept, rest-kept}
+use Rattle.refusal.proofs.Returned.{passed}
+use Rattle.refusal.proofs.Passed.{first-kept, rest-kept}
 use Rattle.parts.proofs.Called.{called-refused, called, fit-as}
 use Rattle.voice.proofs.calls.pluck.Statement.{statement}
 use Rattle.voice.proofs.calls.pluck.Tie as tie

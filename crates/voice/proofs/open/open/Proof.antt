@@ -4,7 +4,7 @@ use mathlib.Core.Path.{_≡_, refl, sym, _∙_}
 use borrow.Author.Needs.{needs}
 use Rattle.refusal.specs.Limits.{refusal}
 use Rattle.rule.specs.Calls.{Opening, openLimits}
-use Rattle.refusal.proofs.Passed.{passed}
+use Rattle.refusal.proofs.Returned.{passed}
 use Rattle.voice.proofs.Opened.{opened-refused, opened-taken}
 use Rattle.voice.proofs.open.open.Statement.{statement}
 use Rattle.voice.proofs.open.open.Tie as tie
