@@ -22,6 +22,7 @@ pub mod Agreement
 pub mod Click
 pub mod Ruling
 pub mod Cover
+pub mod Literals
 pub mod Waits
 pub mod Sample
 pub mod Plucks

@@ -9,3 +9,4 @@ pub mod Keeps
 pub mod Plucks
 pub mod Click
 pub mod Demands
+pub mod Literals

@@ -1,0 +1,35 @@
+-- The click figure in literals, for every opening and list: beside `Click`, so that no bound that is met by
+-- everything can pass for it. Statements alone: proofs/Literals.antt proves them. Assumes nothing.
+use mathlib.Core.Path.{_≡_}
+use mathlib.Core.List.{List}
+use Prim.Native.Nat.{ℕ, _+_, _≤_, _<_}
+use lib.IntN.{pos, natAbs, _-ℤ_}
+use lib.ListN.{getD}
+use Rattle.rule.specs.Calls.{Call, Opening}
+use Rattle.rule.specs.History.{steps, fresh, after, new}
+use Rattle.rule.specs.State.{puts}
+use Rattle.rule.specs.State as S
+use Rattle.rule.specs.Demands.{Rules}
+
+-- a change in order N with advance Na: each sample that comes j or more samples after it took effect, while
+-- it is in force, differs from the new filter's by at most B
+abbrev pub Differs : Opening → List Call → ℕ → ℕ → ℕ → ℕ → Type 0
+Differs o cs N Na j B =
+    (pre post : List Call) (c : Call) (m : ℕ) (k : Rules m (fresh o) cs pre c post)
+    → m < steps (after o cs) → k .t .N ≡ N → k .a ≡ Na → k .e + j ≤ m
+    → natAbs (getD (puts (S.fresh o) cs) m (pos 0) -ℤ new (k .t) (after o cs .s) m) ≤ B
+
+pub record Literals (o : Opening) (cs : List Call) : Type 0 where
+  -- Na 64, the most there is: at most 2, in either order
+  pub order-1-na-64 : Differs o cs 1 64 0 2
+  pub order-2-na-64 : Differs o cs 2 64 0 2
+  -- order 1
+  pub order-1-na-24 : Differs o cs 1 24 0 2
+  pub order-1-na-23 : Differs o cs 1 23 0 3
+  pub order-1-na-22 : Differs o cs 1 22 0 6
+  pub order-1-na-1 : Differs o cs 1 1 0 12582912
+  -- order 2
+  pub order-2-na-48 : Differs o cs 2 48 0 2
+  pub order-2-na-46 : Differs o cs 2 46 0 3
+  -- order 2 with no advance: from 46 samples after the change on
+  pub order-2-na-0-after-46 : Differs o cs 2 0 46 3

@@ -1,0 +1,141 @@
+-- Header and records, part by part: each is accepted, as specs/Reached.antt has it, or refused, as
+-- specs/Ends.antt has it. Assumes nothing.
+use mathlib.Core.Path.{_≡_, refl, sym, ap, subst, _∙_}
+use mathlib.Core.Logic.{_⊎_, inl, inr, ⊎-elim}
+use mathlib.Core.List.{List, [], _∷_}
+use mathlib.Core.Option.{Option, none, some}
+use Prim.Native.Nat.{ℕ, zero, suc, _+_, _*_, _-_, _≤_, _<_}
+use native.Mathlib.Omega.{arith}
+use native.Mathlib.Decide.{decLe}
+use lib.IntN.{ℤ}
+use lib.ListN.{length, getD, drop, length-drop}
+use Rattle.refusal.specs.Orders.{orders, lowest, highest}
+use Rattle.rule.specs.Voice.{Waiting}
+use Rattle.rule.specs.State.{State, call}
+use Rattle.rule.specs.Calls.{Call}
+use Rattle.rule.specs.Refusals.{Between}
+use Rattle.record.specs.Record.{bit, mapOf, field}
+use Rattle.score.specs.declared.Played.{Played}
+use Rattle.score.specs.Played.{Runs}
+use Rattle.score.specs.Reached.{header, Opens, OrderIn, LengthIn, DelayIn, LossIn, AdvanceIn, Stands, Lacks, size}
+use Rattle.score.specs.Reached.{IllFormed, count-alone, seed-alone, instant-alone, Readable, waited}
+use Rattle.score.specs.Reached.{SetsLoss, as-it-was, set, Given, present, absent, AsksChange, Delayed}
+use Rattle.score.specs.Reached.{MakesChange, no-change, changed, MakesPluck, no-pluck, plucked}
+use Rattle.score.specs.Reached.{Reached, first, later}
+use Rattle.score.specs.Ends.{HeaderRefused, RecordRefused, LossRefused, ChangeRefused, PluckRefused}
+use Rattle.score.specs.Ends.{cut, order, long, delay, loss, advance, ill-formed, full, loss-outside, waits}
+use Rattle.score.specs.Ends.{amplitude, count}
+use Rattle.score.specs.Ends.{Ends, unopened, record-refused, lossless, unchanged, unplucked, success, Answered}
+use Rattle.score.proofs.Parts.{bit-is, kind}
+use Rattle.score.proofs.Standing.{Standing, standing}
+use Rattle.score.proofs.Ending.{Returns, ending}
+
+-- ---- what is within its limits or not
+pub between : (low x high : ℕ) → Between low x high ⊎ (Between low x high → ⊥)
+between low x high = go (decLe low x) (decLe x high)
+  where
+    go : Dec (low ≤ x) → Dec (x ≤ high) → Between low x high ⊎ (Between low x high → ⊥)
+    go (yes a) (yes b) = inl (record { least = a; most = b })
+    go (yes a) (no f) = inr (λ i. f (i .most))
+    go (no f) d = inr (λ i. f (i .least))
+
+idle : (w : Option Waiting) → (w ≡ none) ⊎ (w ≡ none → ⊥)
+idle none = inl refl
+idle (some w) = inr (λ e. let z : _≡_ {A = ℕ} 0 1 = cc in omega arith)
+
+pub at-most : (x y : ℕ) → (x ≤ y) ⊎ (x ≤ y → ⊥)
+at-most x y = go (decLe x y)
+  where
+    go : Dec (x ≤ y) → (x ≤ y) ⊎ (x ≤ y → ⊥)
+    go (yes h) = inl h
+    go (no f) = inr f
+
+-- what goes on where A holds, and is refused where it does not
+try : {A B C : Type 0} → A ⊎ (A → ⊥) → ((A → ⊥) → B) → (A → C ⊎ B) → C ⊎ B
+try (inl a) f g = g a
+try (inr h) f g = inr (f h)
+
+-- ---- the header opens a voice, or is refused
+pub opens-or : (s : List ℕ) → Opens s ⊎ ((n : ℕ) × HeaderRefused s n)
+opens-or s =
+    try (at-most 8 (length s)) (λ f. (14, cut (omega arith))) λ w.
+    try (between 1 (header s .N) orders) (λ f. (1, order w f)) λ n.
+    try (between 1 (header s .L) 2048) (λ f. (2, long w n f)) λ l.
+    try (between (lowest (header s .N)) (header s .d) (highest (header s .N))) (λ f. (3, delay w n l f)) λ d.
+    try (between 0 (header s .G) 65535) (λ f. (4, loss w n l d f)) λ g.
+    try (between 0 (header s .Na) 64) (λ f. (5, advance w n l d g f)) λ a.
+    inl (record { whole = w; order = n; long = l; delay = d; loss = g; advance = a })
+
+-- ---- the parts of a record are accepted, or refused
+module _ (t : List ℕ) where
+  given : (k y : ℕ) → (x : ℕ) × Given t k y x
+  given k y = ⊎-elim (λ e. (y, absent e refl)) (λ e. (field t k, present e refl)) (bit-is (mapOf t) k)
+
+  not-ill : (Lacks t 4 → Lacks t 5 × Lacks t 6) → (Stands t 7 → Lacks t 1 → Lacks t 2 → ⊥) → IllFormed t → ⊥
+  not-ill p c (count-alone e i) = omega (arith, p i)
+  not-ill p c (seed-alone e i) = omega (arith, p i)
+  not-ill p c (instant-alone e i j) = c e i j
+
+  ill-or : IllFormed t ⊎ (IllFormed t → ⊥)
+  ill-or =
+      ⊎-elim
+      (λ e.
+      ⊎-elim
+      (λ i.
+      ⊎-elim (λ j. changes (λ z. (i, j))) (λ j. inl (seed-alone j e)) (bit-is (mapOf t) 6))
+      (λ i. inl (count-alone i e)) (bit-is (mapOf t) 5))
+      (λ e. changes (λ z. absurd (omega arith))) (bit-is (mapOf t) 4)
+    where
+      changes : (Lacks t 4 → Lacks t 5 × Lacks t 6) → IllFormed t ⊎ (IllFormed t → ⊥)
+      changes p =
+          ⊎-elim (λ e. inr (not-ill p (λ z i j. omega arith)))
+          (λ e.
+          ⊎-elim
+          (λ i.
+          ⊎-elim (λ j. inl (instant-alone e i j)) (λ j. inr (not-ill p (λ z x y. omega arith)))
+          (bit-is (mapOf t) 2))
+          (λ i. inr (not-ill p (λ z x y. omega arith))) (bit-is (mapOf t) 1)) (bit-is (mapOf t) 7)
+
+  pub readable-or : (left : ℕ) → Readable t left ⊎ ((n : ℕ) × RecordRefused t left n)
+  readable-or left =
+      try (at-most (size t) (length t)) (λ f. (14, cut (omega arith))) λ w.
+      ⊎-elim (λ i. inr (15, ill-formed w i))
+      (λ e. try (at-most (field t 0) left) (λ f. (16, full w e (omega arith))) λ h.
+      inl (record { whole = w; formed = e; fits = h })) ill-or
+
+  pub loss-or : (v : State) → ((u : State) × SetsLoss t v u) ⊎ ((n : ℕ) × LossRefused t n)
+  loss-or v = ⊎-elim (λ e. inl (v, as-it-was e refl)) there (bit-is (mapOf t) 3)
+    where
+      there : Stands t 3 → ((u : State) × SetsLoss t v u) ⊎ ((n : ℕ) × LossRefused t n)
+      there e =
+          try (between 0 (field t 3) 65535) (λ f. (4, loss-outside e f)) λ b.
+          inl (call v (Call.loss (field t 3)), set e b refl)
+
+  pub change-or : (v : State) → ((u : State) × MakesChange t v u) ⊎ ((n : ℕ) × ChangeRefused t v n)
+  change-or v =
+      ⊎-elim
+      (λ e. ⊎-elim (λ i. inl (v, no-change e i refl)) (λ i. there (omega arith)) (bit-is (mapOf t) 2))
+      (λ e. there (omega arith)) (bit-is (mapOf t) 1)
+    where
+      there : 0 < bit (mapOf t) 1 + bit (mapOf t) 2
+          → ((u : State) × MakesChange t v u) ⊎ ((n : ℕ) × ChangeRefused t v n)
+      there h =
+          let L = given 1 (v .voice .tuning .L) in
+          let d = given 2 (v .voice .tuning .d) in
+          let c = kind t (L .0) (d .0) in
+          let a : AsksChange t v (L .0) (d .0) = record { some = h; long = L .1; delay = d .1 } in
+          let N = v .voice .tuning .N in
+          try (between 1 (L .0) 2048) (λ f. (2, long a f)) λ l.
+          try (between (lowest N) (d .0) (highest N)) (λ f. (3, delay a l f)) λ k.
+          try (idle (v .voice .waiting)) (λ f. (6, waits a l k f)) λ w.
+          inl (call v (c .0), changed a l k w (c .1) refl)
+
+  pub pluck-or : (v : State) → ((u : State) × MakesPluck t v u) ⊎ ((n : ℕ) × PluckRefused t v n)
+  pluck-or v = ⊎-elim (λ e. inl (v, no-pluck e refl)) there (bit-is (mapOf t) 4)
+    where
+      there : Stands t 4 → ((u : State) × MakesPluck t v u) ⊎ ((n : ℕ) × PluckRefused t v n)
+      there e =
+          let n = given 5 (v .voice .tuning .L) in
+          try (between 0 (field t 4) 255) (λ f. (7, amplitude e f)) λ a.
+          try (between 1 (n .0) 2048) (λ f. (8, count e a (n .1) f)) λ k.
+          inl (call v (Call.pluck (field t 4) (n .0) (field t 6)), plucked e a (n .1) k refl)

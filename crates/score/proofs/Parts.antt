@@ -1,0 +1,187 @@
+-- The parts of a record as specs/Reached.antt and specs/Ends.antt have them are the calls that the record
+-- makes: the number that ends each part, and the voice that it leaves. Assumes nothing.
+use mathlib.Core.Path.{_≡_, refl, sym, ap, subst, _∙_}
+use mathlib.Core.Bool.{cond}
+use mathlib.Core.List.{List, [], _∷_, _++_}
+use mathlib.Core.Logic.{_⊎_, inl, inr}
+use Prim.Native.Nat.{ℕ, zero, suc, _+_, _<_}
+use native.Mathlib.Omega.{arith}
+use borrow.Author.Tests.{eq-eqb, ne-eqb}
+use lib.Dec.{eqb}
+use Rattle.rule.specs.Calls.{Call, loss, pluck, announce, instant, number}
+use Rattle.rule.specs.State.{State, call, from}
+use Rattle.rule.specs.Refusals.{ChangeReturns}
+use Rattle.rule.proofs.Refusals.{refuses}
+use Rattle.record.specs.Record.{bit, mapOf, field, read}
+use Rattle.follow.specs.Follow.{value, stands, lossCalls, lengthTo, delayTo, change, changeCalls, countOf}
+use Rattle.follow.specs.Follow.{pluckCalls, result, then}
+use Rattle.follow.proofs.Sequence.{from-append, result-past, result-one, then-past, then-stops}
+use Rattle.score.specs.Reached.{Stands, Lacks, SetsLoss, as-it-was, set, Given, present, absent}
+use Rattle.score.specs.Reached.{AsksChange, Kind, announced, instantly, MakesChange, no-change, changed}
+use Rattle.score.specs.Reached.{MakesPluck, no-pluck, plucked}
+use Rattle.score.specs.Ends.{LossRefused, loss-outside, ChangeRefused, long, delay, waits}
+use Rattle.score.specs.Ends.{PluckRefused, amplitude, count}
+
+-- a bit stands or does not
+pub bit-is : (map k : ℕ) → (bit map k ≡ 0) ⊎ (bit map k ≡ 1)
+bit-is map k = go (bit map k) (omega arith)
+  where
+    go : (b : ℕ) → b < 2 → (b ≡ 0) ⊎ (b ≡ 1)
+    go zero h = inl refl
+    go (suc zero) h = inr refl
+    go (suc (suc b)) h = absurd (omega arith)
+
+-- the calls cs on v end with the number n, and leave u
+pub record Yields (v : State) (cs : List Call) (n : ℕ) (u : State) : Type 0 where
+  pub number : result v cs ≡ n
+  pub state : from v cs ≡ u
+
+-- ---- none, one, and some after others
+nothing : (v : State) → Yields v [] 0 v
+nothing v = record { number = refl; state = refl }
+
+one : (v : State) (c : Call) {n : ℕ} {u : State} → number (v .voice) c ≡ n → u ≡ call v c
+    → Yields v (c ∷ []) n u
+one v c e i = record { number = sym (result-one v c) ∙ e; state = sym i }
+
+pub first-then : (f g : State → List Call) {v a u : State} {n : ℕ} → Yields v (f v) 0 a → Yields a (g a) n u
+    → Yields v (then f g v) n u
+first-then f g {v} {n = n} y z =
+    let e = then-past f g v (y .number) in
+    record {
+      number =
+          ap (λ (cs : List Call). result v cs) (sym e)
+          ∙ result-past v (f v) (g (from v (f v))) (y .number)
+          ∙ ap (λ (w : State). result w (g w)) (y .state)
+          ∙ z .number;
+      state =
+          ap (λ (cs : List Call). from v cs) (sym e)
+          ∙ from-append v (f v) (g (from v (f v)))
+          ∙ ap (λ (w : State). from w (g w)) (y .state)
+          ∙ z .state;
+    }
+
+pub first-ends : (f g : State → List Call) {v u : State} {n : ℕ} → Yields v (f v) n u → (n ≡ 0 → ⊥)
+    → Yields v (then f g v) n u
+first-ends f g {v} y h =
+    let e = then-stops f g v (λ z. h (sym (y .number) ∙ z)) in
+    record {
+      number = ap (λ (cs : List Call). result v cs) (sym e) ∙ y .number;
+      state = ap (λ (cs : List Call). from v cs) (sym e) ∙ y .state;
+    }
+
+-- a call where some bits stand, else none
+module _ (v : State) (k : ℕ) (c : Call) where
+  left-out : {u : State} → k ≡ 0 → u ≡ v → Yields v (cond (eqb k 0) [] (c ∷ [])) 0 u
+  left-out e i =
+      rw (eq-eqb k 0 e) (subst (λ (w : State). Yields v [] 0 w) (sym i) (nothing v))
+
+  made : {n : ℕ} {u : State} → (k ≡ 0 → ⊥) → number (v .voice) c ≡ n → u ≡ call v c
+      → Yields v (cond (eqb k 0) [] (c ∷ [])) n u
+  made h e i = rw (ne-eqb k 0 h) (one v c e i)
+
+-- ---- of the record in the bytes t, as reading it gives it
+module _ (t : List ℕ) where
+  abbrev pub r : List ℕ
+  r = 0 ∷ read t
+
+  chosen : (k : ℕ) (y : ℕ) {x : ℕ} → Given t k y x → x ≡ cond (eqb (bit (mapOf t) k) 0) y (field t k)
+  chosen k y (present e i) = rw (ne-eqb (bit (mapOf t) k) 0 (λ z. omega arith)) i
+  chosen k y (absent e i) = rw (eq-eqb (bit (mapOf t) k) 0 e) i
+
+  pub sets-loss : {v u : State} → SetsLoss t v u → Yields v (lossCalls r v) 0 u
+  sets-loss {v} (as-it-was e i) = left-out v (bit (mapOf t) 3) (loss (field t 3)) e i
+  sets-loss {v} (set e b i) =
+      made v (bit (mapOf t) 3) (loss (field t 3)) (λ z. omega arith)
+      (refuses .losses (v .voice) (field t 3) .accepted .1 b) i
+
+  pub loss-refused : {n : ℕ} (v : State) → LossRefused t n
+      → Yields v (lossCalls r v) n (call v (loss (field t 3))) × (n ≡ 0 → ⊥)
+  loss-refused v (loss-outside e f) = (
+    made v (bit (mapOf t) 3) (loss (field t 3)) (λ z. omega arith)
+        (refuses .losses (v .voice) (field t 3) .loss .1 f) refl,
+    λ z. omega arith,
+  )
+
+  -- a change to L and d, of either kind: its number is the same
+  abbrev either : ℕ
+  either = bit (mapOf t) 1 + bit (mapOf t) 2
+
+  module _ (v : State) {L d : ℕ} (a : AsksChange t v L d) where
+    change-is : {c : Call} → Kind t L d c → c ≡ change r v
+    change-is (announced e i) =
+        i ∙ rw (
+          eq-eqb (bit (mapOf t) 7) 0 e,
+          ← chosen 1 (v .voice .tuning .L) (a .long),
+          ← chosen 2 (v .voice .tuning .d) (a .delay),
+        )
+    change-is (instantly e i) =
+        i ∙ rw (
+          ne-eqb (bit (mapOf t) 7) 0 (λ z. omega arith),
+          ← chosen 1 (v .voice .tuning .L) (a .long),
+          ← chosen 2 (v .voice .tuning .d) (a .delay),
+        )
+
+    makes : {c : Call} {n : ℕ} {u : State} → Kind t L d c → number (v .voice) c ≡ n → u ≡ call v c
+        → Yields v (changeCalls r v) n u
+    makes {c} {n} {u} k e i =
+        let z = change-is k in
+        made v either (change r v) (λ o. omega (arith, a .some))
+        (ap (λ (x : Call). number (v .voice) x) (sym z) ∙ e) (i ∙ ap (λ (x : Call). call v x) z)
+
+  returns : (v : State) (L d : ℕ) {c : Call} → Kind t L d c → ChangeReturns (v .voice) L d (number (v .voice) c)
+  returns v L d (announced e i) = rw i (refuses .announces (v .voice) L d)
+  returns v L d (instantly e i) = rw i (refuses .instants (v .voice) L d)
+
+  pub makes-change : {v u : State} → MakesChange t v u → Yields v (changeCalls r v) 0 u
+  makes-change {v} (no-change e f i) = left-out v either (change r v) (omega arith) i
+  makes-change {v} (changed {L} {d} a l k w o i) =
+      makes v a o (returns v L d o .accepted .1 (l, (k, w))) i
+
+  pub kind : (L d : ℕ) → (c : Call) × Kind t L d c
+  kind L d = go (bit-is (mapOf t) 7)
+    where
+      go : Lacks t 7 ⊎ Stands t 7 → (c : Call) × Kind t L d c
+      go (inl e) = (announce L d, announced e refl)
+      go (inr e) = (instant L d, instantly e refl)
+
+  pub change-refused : {n : ℕ} {v : State} → ChangeRefused t v n
+      → (u : State) × Yields v (changeCalls r v) n u × (n ≡ 0 → ⊥)
+  change-refused {v = v} (long {L} {d} a f) =
+      let k = kind L d in
+      (call v (k .0), makes v a (k .1) (returns v L d (k .1) .length .1 f) refl, λ z. omega arith)
+  change-refused {v = v} (delay {L} {d} a l f) =
+      let k = kind L d in
+      (call v (k .0), makes v a (k .1) (returns v L d (k .1) .delay .1 (l, f)) refl, λ z. omega arith)
+  change-refused {v = v} (waits {L} {d} a l e f) =
+      let k = kind L d in
+      (call v (k .0), makes v a (k .1) (returns v L d (k .1) .waits .1 (l, (e, f))) refl, λ z. omega arith)
+
+  -- a pluck
+  module _ (v : State) {n : ℕ} (e : Stands t 4) (g : Given t 5 (v .voice .tuning .L) n) where
+    plucks : {m : ℕ} {u : State} → number (v .voice) (pluck (field t 4) n (field t 6)) ≡ m
+        → u ≡ call v (pluck (field t 4) n (field t 6)) → Yields v (pluckCalls r v) m u
+    plucks p i =
+        made v (bit (mapOf t) 4) (pluck (field t 4) (countOf r v) (field t 6)) (λ z. omega arith)
+        (rw (← chosen 5 (v .voice .tuning .L) g) p) (rw (← chosen 5 (v .voice .tuning .L) g) i)
+
+  pub makes-pluck : {v u : State} → MakesPluck t v u → Yields v (pluckCalls r v) 0 u
+  makes-pluck {v} (no-pluck e i) =
+      left-out v (bit (mapOf t) 4) (pluck (field t 4) (countOf r v) (field t 6)) e i
+  makes-pluck {v} (plucked {n} e a g k i) =
+      plucks v e g (refuses .plucks (v .voice) (field t 4) n (field t 6) .accepted .1 (a, k)) i
+
+  pub pluck-refused : {n : ℕ} {v : State} → PluckRefused t v n
+      → (u : State) × Yields v (pluckCalls r v) n u × (n ≡ 0 → ⊥)
+  pluck-refused {v = v} (amplitude e f) =
+      let n = countOf r v in (
+        call v (pluck (field t 4) n (field t 6)),
+        made v (bit (mapOf t) 4) (pluck (field t 4) n (field t 6)) (λ z. omega arith)
+            (refuses .plucks (v .voice) (field t 4) n (field t 6) .amplitude .1 f) refl,
+        λ z. omega arith,
+      )
+  pluck-refused {v = v} (count {n} e a g f) = (
+    call v (pluck (field t 4) n (field t 6)),
+    plucks v e g (refuses .plucks (v .voice) (field t 4) n (field t 6) .count .1 (a, f)) refl,
+    λ z. omega arith,
+  )
