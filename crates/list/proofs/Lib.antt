@@ -1,5 +1,6 @@
 pub mod Calling
 pub mod Clicks
+pub mod Chain
 pub mod Form
 pub mod Over
 pub mod Put

@@ -1,3 +1,4 @@
 pub mod Words
 pub mod Performed
 pub mod Clicks
+pub mod Chain

@@ -40,13 +40,17 @@ pub record Figure (y s : List ℤ) (t : Tuning) (a e m : ℕ) : Type 0 where
   pub same : ((i : ℕ) → i < e - a → read s i (t .L) ≡ pos 0) → getD y m (pos 0) ≡ new t s m
 
 -- "Take any sample that the list puts out after a change with advance Na took effect and before a later one
--- does." The samples are those that the calls put out one after the other; s is "never read from the voice
--- that the calls pass on"
-abbrev pub Click : Opening → List Call → Type 0
-Click o cs =
+-- does." y are the samples that the calls put out one after the other; s is "never read from the voice that
+-- the calls pass on"
+abbrev pub ClickFigure : Opening → List Call → List ℤ → Type 0
+ClickFigure o cs y =
     (pre post : List Call) (c : Call) (t : Tuning) (a e m : ℕ)
     → cs ≡ pre ++ c ∷ post
     → Change (after o pre) c t a e
     → NoneBy m (call (after o pre) c) post
     → e ≤ m → m < steps (after o cs)
-    → Figure (puts (fresh o) cs) (after o cs .s) t a e m
+    → Figure y (after o cs .s) t a e m
+
+-- of a list: of what it puts out
+abbrev pub Click : Opening → List Call → Type 0
+Click o cs = ClickFigure o cs (puts (fresh o) cs)
