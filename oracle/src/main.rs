@@ -5,7 +5,7 @@ use oracle::compare::compare;
 use oracle::console::answers;
 use oracle::figures::figures;
 use oracle::player::{play, SCORE_BYTES};
-use oracle::rows::rows;
+use oracle::rows::{module, names};
 use std::io::{self, Read, Write};
 use std::path::Path;
 use std::process::ExitCode;
@@ -13,7 +13,7 @@ use std::process::ExitCode;
 const USAGE: &str = "oracle player < score
 oracle console < text
 oracle figures
-oracle rows
+oracle rows [NAME]
 oracle scores SEED COUNT DIR
 oracle calls SEED COUNT DIR
 oracle compare PROGRAM DIR SAVED";
@@ -59,6 +59,11 @@ fn print_figures() -> Result<(), String> {
     }
 }
 
+/// `rows`: prints a module of rows.
+fn print_rows(name: &str) -> Result<(), String> {
+    print(&module(name).ok_or(format!("no module of rows: {name}"))?)
+}
+
 /// What the cases reached, one number per line.
 fn print_report(report: &Report) -> Result<(), String> {
     for (number, count) in report.refusals.iter().enumerate() {
@@ -101,7 +106,8 @@ fn main() -> ExitCode {
         ["player"] => player(),
         ["console"] => console(),
         ["figures"] => print_figures(),
-        ["rows"] => print(&rows()),
+        ["rows"] => print(&names()),
+        ["rows", name] => print_rows(name),
         [kind @ ("scores" | "calls"), seed, count, dir] => make_cases(kind, seed, count, dir),
         ["compare", program, dir, saved] => hold(program, dir, saved),
         _ => {

@@ -3,7 +3,7 @@
 use oracle::click::{history, Tally};
 use oracle::rows::answers::{open, opening, Answers};
 use oracle::rows::lists::{LISTS, OPENINGS};
-use oracle::rows::rows;
+use oracle::rows::{module, MODULES};
 
 /// How often each number up to 10 was returned.
 fn tally(numbers: impl Iterator<Item = u32>) -> [u32; 11] {
@@ -34,9 +34,26 @@ fn demand_3_holds_on_each_list() {
 }
 
 #[test]
+fn every_refusal_of_a_record_and_of_a_note_is_reached() {
+    let records = module("RecordRows").expect("the module RecordRows");
+    for number in [0, 14, 15] {
+        assert!(records.contains(&format!("fields = {number} ∷")), "{number}");
+    }
+    let notes = module("NoteRows").expect("the module NoteRows");
+    for number in [0, 1, 11, 12, 13] {
+        assert!(notes.contains(&format!("number = {number};")), "{number}");
+    }
+    for limit in ["L = 1;", "L = 2048;", "d = 2049 ", "d = 6144 ", "d = 6145 ", "d = 10240 "] {
+        assert!(notes.contains(limit), "{limit}");
+    }
+}
+
+#[test]
 fn a_row_is_written_in_antt() {
-    let text = rows();
-    assert!(text.lines().all(|line| line.chars().count() < 110));
+    for (_, print) in MODULES {
+        assert!(print().lines().all(|line| line.chars().count() < 110));
+    }
+    let text = module("Rows").expect("the module Rows");
     let end = "  -- Open refuses by 1, with all numbers outside their limits
   pub refused1 :
       Row (record { N = 0; L = 0; d = 0; G = 65536; Na = 65 })

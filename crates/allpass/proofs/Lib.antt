@@ -4,3 +4,4 @@ pub mod Orders
 pub mod Stored
 mod Counting
 pub mod Taken
+pub mod Returns

@@ -325,6 +325,62 @@ pub record Rows : Type 0 where
             pos 58 ∷ pos 2189 ∷ pos 10030 ∷ pos 5263 ∷ negsuc 1836 ∷ pos 390 ∷ pos 32768 ∷ pos 0
             ∷ [];
       })
+  -- order 1, G 65,535: what is lost of sums small and large; a half, above and below zero
+  pub loss65535 :
+      Row (record { N = 1; L = 4; d = 4096; G = 65535; Na = 0 })
+      (block (pos 3 ∷ pos 0 ∷ negsuc 2 ∷ pos 0 ∷ pos 65536 ∷ []) 5
+      ∷ block (pos 0 ∷ negsuc 65535 ∷ pos 0 ∷ pos 131074 ∷ pos 0 ∷ []) 5
+      ∷ block (negsuc 131073 ∷ pos 0 ∷ pos 0 ∷ pos 0 ∷ pos 0 ∷ []) 5
+      ∷ [])
+      (record {
+        opening = 0;
+        numbers = 0 ∷ 0 ∷ 0 ∷ [];
+        counts = 0 ∷ 0 ∷ 0 ∷ [];
+        outputs =
+            pos 0 ∷ pos 0 ∷ pos 0 ∷ pos 0 ∷ pos 0 ∷ pos 3 ∷ pos 0 ∷ negsuc 2 ∷ pos 0 ∷ pos 65536
+            ∷ pos 1 ∷ negsuc 65534 ∷ negsuc 0 ∷ pos 131073 ∷ pos 32768 ∷ [];
+        voice = record {
+          tuning = record { N = 1; L = 4; d = 4096 };
+          G = 65535;
+          Na = 0;
+          state = negsuc 98305 ∷ [];
+          last = pos 32768;
+          waiting = none;
+          pluck = record { amplitude = 0; left = 0; noise = 0 };
+        };
+        line =
+            pos 81919 ∷ pos 65535 ∷ negsuc 32766 ∷ negsuc 32766 ∷ negsuc 98305 ∷ pos 32768
+            ∷ pos 131073 ∷ negsuc 0 ∷ negsuc 65534 ∷ pos 1 ∷ pos 65536 ∷ pos 0 ∷ negsuc 2 ∷ pos 0
+            ∷ pos 3 ∷ pos 0 ∷ [];
+      })
+  -- order 2, G 65,000: the same
+  pub loss65000 :
+      Row (record { N = 2; L = 4; d = 8192; G = 65000; Na = 0 })
+      (block (pos 3 ∷ pos 0 ∷ negsuc 2 ∷ pos 0 ∷ pos 8192 ∷ []) 5
+      ∷ block (pos 0 ∷ negsuc 8191 ∷ pos 0 ∷ pos 8193 ∷ pos 0 ∷ []) 5
+      ∷ block (negsuc 8192 ∷ pos 0 ∷ pos 0 ∷ pos 0 ∷ pos 0 ∷ []) 5
+      ∷ [])
+      (record {
+        opening = 0;
+        numbers = 0 ∷ 0 ∷ 0 ∷ [];
+        counts = 0 ∷ 0 ∷ 0 ∷ [];
+        outputs =
+            pos 0 ∷ pos 0 ∷ pos 0 ∷ pos 0 ∷ pos 0 ∷ pos 0 ∷ pos 3 ∷ pos 0 ∷ negsuc 2 ∷ pos 0
+            ∷ pos 8192 ∷ pos 0 ∷ negsuc 8190 ∷ pos 1 ∷ pos 8192 ∷ [];
+        voice = record {
+          tuning = record { N = 2; L = 4; d = 8192 };
+          G = 65000;
+          Na = 0;
+          state = negsuc 4129 ∷ negsuc 0 ∷ [];
+          last = pos 8192;
+          waiting = none;
+          pluck = record { amplitude = 0; left = 0; noise = 0 };
+        };
+        line =
+            pos 4063 ∷ negsuc 4061 ∷ negsuc 4061 ∷ pos 4063 ∷ negsuc 4129 ∷ negsuc 0 ∷ pos 8192
+            ∷ pos 1 ∷ negsuc 8190 ∷ pos 0 ∷ pos 8192 ∷ pos 0 ∷ negsuc 2 ∷ pos 0 ∷ pos 3 ∷ pos 0
+            ∷ [];
+      })
   -- Open refuses by 5: the calls go to its refusal voice; a pluck runs out at last
   pub refused5 :
       Row (record { N = 2; L = 7; d = 9159; G = 60000; Na = 65 })

@@ -1,4 +1,4 @@
-// The noise generator of a pluck: a draw by value, and one on a state that the caller lends.
+// The noise generator of a pluck: a state that is lent for each draw, and left advanced.
 // Contracts cite specs/Noise.antt.
 ghost use mathlib.Core.Path.{_≡_};
 ghost use Rattle.noise.specs.Noise.{next as Next, value, drawn};
@@ -17,8 +17,8 @@ fn next(state: u32) -> u32
     wrapping_add_u32(wrapping_mul_u32(1_664_525, state), 1_013_904_223)
 }
 
-// One draw on a state.
-pub fn draw(state: u32) -> Drawn
+// One draw on a state, by value.
+fn moved(state: u32) -> Drawn
     ensures { λ r. ⌜ r ≡ drawn state ⌝ }
 {
     let moved = next(state);
@@ -39,8 +39,20 @@ impl Noise {
         ensures { λ r. ⌜ (r ≡ value (Next (now (self .entry) .state)))
             × (now (self .exit) .state ≡ Next (now (self .entry) .state)) ⌝ }
     {
-        let d = draw(self.state);
+        let d = moved(self.state);
         self.state = d.state;
         d.value
+    }
+}
+
+// One draw on a state that a struct of the caller holds: it is lent, and the state that is left is returned.
+pub fn draw(state: u32) -> Drawn
+    ensures { λ r. ⌜ r ≡ drawn state ⌝ }
+{
+    let mut noise = Noise { state };
+    let value = noise.draw();
+    Drawn {
+        value,
+        state: noise.state,
     }
 }

@@ -2,3 +2,4 @@ mod Table
 pub mod Theorems
 pub mod Refusals
 mod Quotient
+pub mod Returns

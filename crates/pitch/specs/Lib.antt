@@ -1,2 +1,3 @@
 pub mod Pitch
 pub mod Theorems
+pub mod Returns

@@ -1,2 +1,4 @@
 pub mod Passed
 pub mod Returned
+pub mod Tests
+pub mod Ranges

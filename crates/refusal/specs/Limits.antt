@@ -2,8 +2,13 @@
 -- Definitions alone: proofs/Returned.antt has their laws. Assumes nothing.
 use mathlib.Core.Bool.{Bool, cond, _||_}
 use mathlib.Core.List.{List, [], _∷_}
-use Prim.Native.Nat.{ℕ}
+use Prim.Native.Nat.{ℕ, _≤_}
 use lib.Dec.{ltb}
+
+-- x is from low to high
+pub record Between (low x high : ℕ) : Type 0 where
+  pub least : low ≤ x
+  pub most : x ≤ high
 
 -- one test of a call: its number, and the limits from low to high within which the value is let pass
 pub record Limit : Type 0 where

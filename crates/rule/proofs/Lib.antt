@@ -1,4 +1,3 @@
-pub mod Tests
 pub mod Refusals
 pub mod Read
 pub mod Keeps

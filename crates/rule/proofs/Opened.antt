@@ -6,12 +6,12 @@ use Prim.Native.Nat.{ℕ, _≤_}
 use native.Mathlib.Omega.{arith}
 use native.Mathlib.Decide.{ℕ-discrete}
 use lib.IntN.{pos}
-use Rattle.refusal.specs.Limits.{refusal}
+use Rattle.refusal.specs.Limits.{Between, refusal}
 use Rattle.refusal.specs.Orders.{Takes}
 use Rattle.rule.specs.Voice.{Tuning, Voice, rest}
 use Rattle.rule.specs.Calls.{Opening, openLimits, opened, resting}
 use Rattle.rule.specs.Valid.{Fit, Valid}
-use Rattle.rule.specs.Refusals.{Between, Resting}
+use Rattle.rule.specs.Refusals.{Resting}
 use Rattle.rule.proofs.Refusals.{refuses}
 use Rattle.rule.proofs.Filters.{rest-filled}
 use Rattle.rule.proofs.Keeps.{none-some}

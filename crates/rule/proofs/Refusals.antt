@@ -10,8 +10,9 @@ use lib.IntN.{ℤ}
 use lib.ListN.{length}
 use borrow.Author.Tests.{eq-eqb, ne-eqb}
 use Rattle.integer.specs.Rounding.{M}
-use Rattle.refusal.specs.Limits.{refusal}
+use Rattle.refusal.specs.Limits.{Between, refusal}
 use Rattle.refusal.specs.Orders.{order, delay}
+use Rattle.refusal.proofs.Tests.{refused, accepted}
 use Rattle.samples.specs.Samples.{loudest}
 use Rattle.allpass.specs.Bounds.{Within, none, more}
 use Rattle.rule.specs.Voice.{Waiting, Voice}
@@ -20,8 +21,7 @@ use Rattle.rule.specs.Tests.{strong, lasting, matched, loud}
 use Rattle.rule.specs.Calls.{block, loss, pluck, instant, Opening, openLimits, changeLimits}
 use Rattle.rule.specs.Calls.{number, opened, resting, count}
 use Rattle.rule.specs.State.{call, put}
-use Rattle.rule.specs.Refusals.{Between, OpenReturns, ChangeReturns, BlockReturns, Resting, Refuses}
-use Rattle.rule.proofs.Tests.{refused, accepted}
+use Rattle.rule.specs.Refusals.{OpenReturns, ChangeReturns, BlockReturns, Resting, Refuses}
 
 -- ---- conditions that are no limits of a number in the paper
 none-waits : (w : Option Waiting) → Between 0 (waitings w) 0 ↔ (w ≡ none)

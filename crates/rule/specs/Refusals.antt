@@ -4,22 +4,17 @@ use mathlib.Core.Path.{_≡_}
 use mathlib.Core.Logic.{_↔_}
 use mathlib.Core.List.{List, []}
 use mathlib.Core.Option.{none}
-use Prim.Native.Nat.{ℕ, _≤_}
+use Prim.Native.Nat.{ℕ}
 use lib.IntN.{ℤ, pos}
 use lib.ListN.{length, replicate}
 use Rattle.integer.specs.Rounding.{M}
-use Rattle.refusal.specs.Limits.{refusal}
+use Rattle.refusal.specs.Limits.{Between, refusal}
 use Rattle.refusal.specs.Orders.{orders, lowest, highest}
 use Rattle.allpass.specs.Bounds.{Within}
 use Rattle.rule.specs.Voice.{Voice}
 use Rattle.rule.specs.Calls.{Call, block, loss, pluck, announce, instant, Opening}
 use Rattle.rule.specs.Calls.{openLimits, number, opened, count}
 use Rattle.rule.specs.State.{State, call, put}
-
--- x is from low to high
-pub record Between (low x high : ℕ) : Type 0 where
-  pub least : low ≤ x
-  pub most : x ≤ high
 
 -- ---- the number n of each call: "Tests run in the order listed"
 -- the limits of N, L, d

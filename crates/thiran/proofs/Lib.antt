@@ -5,3 +5,4 @@ pub mod Small
 pub mod Lists
 pub mod Theorems
 pub mod Refusals
+pub mod Returns

@@ -3,3 +3,4 @@ pub mod Coefficients
 pub mod Theorems
 pub mod Steps
 pub mod Answers
+pub mod Returns

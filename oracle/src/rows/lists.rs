@@ -90,6 +90,18 @@ pub const LISTS: &[List] = &[
         calls: "block 4 32768 0 -3 -1; block 3 5 0 0",
     },
     List {
+        name: "loss65535",
+        about: &["order 1, G 65,535: what is lost of sums small and large; a half, above and below zero"],
+        open: "1 4 4096 65535 0",
+        calls: "block 5 3 0 -3 0 65536; block 5 0 -65536 0 131074 0; block 5 -131074 0 0 0 0",
+    },
+    List {
+        name: "loss65000",
+        about: &["order 2, G 65,000: the same"],
+        open: "2 4 8192 65000 0",
+        calls: "block 5 3 0 -3 0 8192; block 5 0 -8192 0 8193 0; block 5 -8193 0 0 0 0",
+    },
+    List {
         name: "refused5",
         about: &["Open refuses by 5: the calls go to its refusal voice; a pluck runs out at last"],
         open: "2 7 9159 60000 65",

@@ -1,123 +1,27 @@
-//! Rows: lists of calls with all that this implementation gives for them, as a module of antt, to
-//! hold definitions of the voice to them by computation.
+//! Rows: what this implementation gives for fixed inputs, as modules of antt, to hold definitions to
+//! them by computation.
 
 pub mod answers;
 pub mod head;
 pub mod lists;
+pub mod notes;
+pub mod records;
+pub mod table;
 pub mod term;
+pub mod voices;
 
-use crate::call::Call;
-use crate::voice::{Tuning, Voice};
-use answers::{open, opening, Answers, Opening};
-use head::HEAD;
-use lists::{List, LISTS, OPENINGS};
-use term::{integer, natural, Term};
+/// A module: its name, and what prints it.
+pub type Module = (&'static str, fn() -> String);
 
-/// A record of numbers.
-fn numbers<const N: usize>(names: [&'static str; N], values: [u32; N]) -> Term {
-    let field = |(name, value)| (name, Term::Words(natural(value)));
-    Term::Record(names.into_iter().zip(values).map(field).collect())
+pub const MODULES: &[Module] =
+    &[("Rows", voices::module), ("RecordRows", records::module), ("NoteRows", notes::module)];
+
+/// The names of the modules, a line for each.
+pub fn names() -> String {
+    MODULES.iter().map(|(name, _)| format!("{name}\n")).collect()
 }
 
-/// A list of numbers from 0 on.
-fn naturals(values: &[u32]) -> Term {
-    Term::List(values.iter().copied().map(natural).collect())
-}
-
-/// A list of whole numbers.
-fn integers(values: &[i128]) -> Term {
-    Term::List(values.iter().copied().map(integer).collect())
-}
-
-/// The record of an opening.
-fn opening_term(opening: Opening) -> Term {
-    numbers(["N", "L", "d", "G", "Na"], opening)
-}
-
-/// A call.
-fn call_text(call: &Call) -> String {
-    match call {
-        Call::Loss { loss } => format!("loss {loss}"),
-        Call::Pluck { amplitude, count, seed } => format!("pluck {amplitude} {count} {seed}"),
-        Call::Announced { length, delay } => format!("announce {length} {delay}"),
-        Call::Instant { length, delay } => format!("instant {length} {delay}"),
-        Call::Block { input, places } if input.is_empty() => format!("block [] {places}"),
-        Call::Block { input, places } => {
-            let input: Vec<i128> = input.iter().copied().map(i128::from).collect();
-            format!("block ({}) {places}", integers(&input).flat())
-        }
-    }
-}
-
-/// The record of N, L and d.
-fn tuning_term(order: u32, tuning: &Tuning) -> Term {
-    numbers(["N", "L", "d"], [order, tuning.length, tuning.delay])
-}
-
-/// Every part of the voice but its line; "the rest of a pluck" is all 0 where no step is left.
-fn voice_term(voice: &Voice) -> Term {
-    let waiting = match &voice.waiting {
-        None => Term::Words("none".to_string()),
-        Some(change) => Term::Some(Box::new(Term::Record(vec![
-            ("tuning", tuning_term(voice.order, &change.tuning)),
-            ("taken", Term::Words(natural(change.taken))),
-            ("state", integers(change.tuning.filter.state())),
-        ]))),
-    };
-    let pluck = match voice.pluck.left {
-        0 => [0; 3],
-        left => [voice.pluck.amplitude, left, voice.pluck.noise],
-    };
-    Term::Record(vec![
-        ("tuning", tuning_term(voice.order, &voice.tuning)),
-        ("G", Term::Words(natural(voice.loss))),
-        ("Na", Term::Words(natural(voice.advance))),
-        ("state", integers(voice.tuning.filter.state())),
-        ("last", Term::Words(integer(voice.last_output()))),
-        ("waiting", waiting),
-        ("pluck", numbers(["amplitude", "left", "noise"], pluck)),
-    ])
-}
-
-/// The lines of a list in brackets, an item on each.
-fn bracketed(items: impl Iterator<Item = String>) -> String {
-    let lines: Vec<String> = items.chain(["[]".to_string()]).collect();
-    format!("({})", lines.join("\n      ∷ "))
-}
-
-/// The field of a row: its opening, its calls and what they give.
-fn row(list: &List) -> String {
-    let answers = Answers::to(list);
-    let about: String = list.about.iter().map(|line| format!("  -- {line}\n")).collect();
-    let opening = opening_term(answers.opening).flat();
-    let calls = bracketed(answers.calls.iter().map(call_text));
-    let given = Term::Record(vec![
-        ("opening", Term::Words(natural(answers.opened))),
-        ("numbers", naturals(&answers.numbers)),
-        ("counts", naturals(&answers.counts)),
-        ("outputs", integers(&answers.outputs)),
-        ("voice", voice_term(&answers.voice)),
-        ("line", integers(&answers.line())),
-    ]);
-    let (name, given) = (list.name, given.spread("      "));
-    format!("{about}  pub {name} :\n      Row ({opening})\n      {calls}\n      ({given})\n")
-}
-
-/// The field of the openings with the numbers that Open returns.
-fn openings() -> String {
-    let openings: Vec<Opening> = OPENINGS.iter().map(|words| opening(words)).collect();
-    let terms = bracketed(openings.iter().map(|opening| opening_term(*opening).flat()));
-    let given: Vec<u32> = openings.iter().map(|opening| open(*opening).1).collect();
-    let about =
-        "  -- what Open returns on both sides of each limit, and where several are passed\n";
-    format!(
-        "{about}  pub openings :\n      opens\n      {terms}\n      ≡ {}\n",
-        naturals(&given).flat()
-    )
-}
-
-/// The module.
-pub fn rows() -> String {
-    let rows: String = LISTS.iter().map(row).collect();
-    format!("{HEAD}{}{rows}", openings())
+/// The module of this name.
+pub fn module(name: &str) -> Option<String> {
+    MODULES.iter().find(|(other, _)| *other == name).map(|(_, print)| print())
 }

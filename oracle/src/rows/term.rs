@@ -24,6 +24,28 @@ pub fn integer(z: i128) -> String {
     }
 }
 
+/// A list of numbers from 0 on.
+pub fn naturals(values: &[u32]) -> Term {
+    Term::List(values.iter().copied().map(natural).collect())
+}
+
+/// A list of whole numbers.
+pub fn integers(values: &[i128]) -> Term {
+    Term::List(values.iter().copied().map(integer).collect())
+}
+
+/// A record of numbers.
+pub fn numbers<const N: usize>(names: [&'static str; N], values: [u32; N]) -> Term {
+    let field = |(name, value)| (name, Term::Words(natural(value)));
+    Term::Record(names.into_iter().zip(values).map(field).collect())
+}
+
+/// The lines of a list in brackets, an item on each.
+pub fn bracketed(items: impl Iterator<Item = String>) -> String {
+    let lines: Vec<String> = items.chain(["[]".to_string()]).collect();
+    format!("({})", lines.join("\n      ∷ "))
+}
+
 /// Whether a line has room for this text.
 fn fits(text: &str) -> bool {
     text.chars().count() <= WIDTH
@@ -75,6 +97,14 @@ impl Term {
                 format!("record {{\n{}{pad}}}", fields.iter().map(field).collect::<String>())
             }
             Term::Some(term) => format!("some ({})", term.spread(pad)),
+        }
+    }
+
+    /// On one line where it has room beside `∷` on a line that is indented by `pad`, else over several.
+    pub fn laid(&self, pad: &str) -> String {
+        match self.flat() {
+            line if fits(&format!("{pad}∷ {line}")) => line,
+            _ => self.spread(pad),
         }
     }
 

@@ -1,4 +1,4 @@
--- The covered `draw`, as the walk of `Noise::draw` calls it: its contract, what it asks, says and returns.
+-- The covered `moved`, as the walk of `Noise::draw` calls it: its contract, what it asks, says and returns.
 -- Assumes nothing.
 use mathlib.Core.Path.{_≡_, ap}
 use Prim.Native.Nat.{ℕ}
@@ -24,7 +24,7 @@ use Rattle.noise.specs.Noise.{next, value, drawn}
 use Rattle.noise.specs.declared.Drawn.{Drawn}
 use Rattle.noise.proofs.Drawn as D
 use Rattle.noise.proofs.Drawn.Laws as D′
-use Rattle.noise.proofs.draw as draw
+use Rattle.noise.proofs.moved as moved
 
 -- the machine value v of what it returns, and of its fields
 module _ (n : ℕ) (v : Val) (is : Is D.the-row (drawn n) (v ∷ [])) where
@@ -39,19 +39,19 @@ module _ (n : ℕ) (v : Val) (is : Is D.the-row (drawn n) (v ∷ [])) where
 
 module _ {M : Type 1} (𝓤 : URA M) (H : Heap 𝓤) (A : Atoms 𝓤) (at-mem : Memory → SProp 𝓤)
     (run : Routine → Fun 𝓤) where
-  abbrev pub Draw : Contract 𝓤
-  Draw = tripleOf 𝓤 H A draw.signature (draw.spec 𝓤 H A at-mem run)
+  abbrev pub Moved : Contract 𝓤
+  Moved = tripleOf 𝓤 H A moved.signature (moved.spec 𝓤 H A at-mem run)
 
-  abbrev pub passed : ℕ → Draw .Ghost
+  abbrev pub passed : ℕ → Moved .Ghost
   passed n = ((tt, tt, tt, (n, tt), (vint w32 n ∷ [], tt)), tt)
 
-  pub asks : Given 𝓤 H A → (n : ℕ) → ent 𝓤 (sem 𝓤 H A (u32 .own n (vint w32 n ∷ []))) (Draw .pre (passed n))
+  pub asks : Given 𝓤 H A → (n : ℕ) → ent 𝓤 (sem 𝓤 H A (u32 .own n (vint w32 n ∷ []))) (Moved .pre (passed n))
   asks W n =
       qed W (‵ (u32 .own n (vint w32 n ∷ [])) ∷ []) ∵ nothing ! $ move ! (1 ∷ 0 ∷ []) $ join ! $ nothing ! $
       join ! $ frame ! $ done !
 
   abbrev pub Ensured : ℕ → Drawn → SProp 𝓤
-  Ensured n r = ensured 𝓤 H A draw.ended (draw.clauses 𝓤 H A at-mem run) tt (n, tt) tt r
+  Ensured n r = ensured 𝓤 H A moved.ended (moved.clauses 𝓤 H A at-mem run) tt (n, tt) tt r
 
   pub says : (n : ℕ) (r : Drawn) → ent 𝓤 (Ensured n r) (fact 𝓤 (r ≡ drawn n))
-  says n r = exE 𝓤 _ (λ ws. snd∗ 𝓤 (sem 𝓤 H A (lasts draw.ended tt (n, tt) ws)) (fact 𝓤 (r ≡ drawn n)))
+  says n r = exE 𝓤 _ (λ ws. snd∗ 𝓤 (sem 𝓤 H A (lasts moved.ended tt (n, tt) ws)) (fact 𝓤 (r ≡ drawn n)))

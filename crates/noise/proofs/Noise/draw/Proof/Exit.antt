@@ -25,12 +25,9 @@ use denote.Steps.{owned, nothing}
 use denote.Triple.Walked.{says, Stays, stay-ref, walkOf, ends-at}
 use Rattle.noise.specs.Noise.{next, value}
 use Rattle.noise.specs.declared.Noise.{Noise}
+use Rattle.noise.proofs.Held.{noise}
 use Rattle.noise.proofs.Noise as T
 use Rattle.noise.proofs.Noise.draw as f
-
--- the struct that holds the state n
-abbrev pub noise : ℕ → Noise
-noise n = record { state = n }
 
 abbrev pub stayed : Stays (f.ended .signature .params) (f.ended .kept)
 stayed = (stay-ref (0 ∷ []) tt (plain (λ _. T.the-row)), tt)

@@ -4,10 +4,9 @@ use mathlib.Core.Path.{_≡_, refl}
 use mathlib.Core.Logic.{_↔_}
 use mathlib.Core.List.{List, [], _∷_, _++_}
 use lib.Dec.{T}
-use Rattle.refusal.specs.Limits.{Limit, refusal}
+use Rattle.refusal.specs.Limits.{Between, Limit, refusal}
 use Rattle.refusal.specs.Returned.{Kept, AllKept, none, more, numbered}
 use Rattle.refusal.proofs.Returned.{returned}
-use Rattle.rule.specs.Refusals.{Between}
 
 -- the value of l is within its limits
 abbrev pub In : Limit → Type 0

@@ -1,0 +1,40 @@
+-- What `effective_length` returns, in ≤, document 01's numbers and its lines: of `effectiveLength`, which its
+-- contract says it returns. Statements alone: proofs/Returns.antt proves `Returns`. Assumes nothing.
+use mathlib.Core.Path.{_≡_}
+use mathlib.Core.List.{List, [], _∷_}
+use Prim.Native.Nat.{ℕ, zero, suc, _≤_, _<_}
+use lib.IntN.{ℤ, pos, natAbs, _+ℤ_, _-ℤ_, _*ℤ_}
+use lib.ListN.{length}
+use Rattle.integer.specs.Rounding.{R}
+use Rattle.refusal.specs.Limits.{Between}
+use Rattle.refusal.specs.Ranges.{OrderDelay}
+use Rattle.thiran.specs.Answers.{answer}
+use Rattle.allpass.specs.Length.{effectiveLength}
+
+-- n of the values ws exceed t in magnitude
+pub data Exceed (t : ℕ) : List ℤ → ℕ → Type 0 where
+  none : Exceed t [] 0
+  exceeds : {w : ℤ} {ws : List ℤ} {n : ℕ} → t < natAbs w → Exceed t ws n → Exceed t (w ∷ ws) (suc n)
+  within : {w : ℤ} {ws : List ℤ} {n : ℕ} → natAbs w ≤ t → Exceed t ws n → Exceed t (w ∷ ws) n
+
+-- "w = f − R(A1·v1 + A2·v2)" with f = 0, "Then v2 becomes v1 and v1 becomes w": n values w of the eliminator
+-- while it is fed zeros, from the state v1, v2; A2 is 0 in order 1
+unfoldable pub fades : ℤ → ℤ → ℤ → ℤ → ℕ → List ℤ
+fades a1 a2 v1 v2 zero = []
+fades a1 a2 v1 v2 (suc n) =
+    let w = pos 0 -ℤ R (a1 *ℤ v1 +ℤ a2 *ℤ v2) in
+    w ∷ fades a1 a2 w v1 n
+
+-- "feed 1,000,000 and then 63 zeros to a resting eliminator": at rest w is f, since R(0) is 0
+unfoldable pub values : ℤ → ℤ → List ℤ
+values a1 a2 = pos 1000000 ∷ fades a1 a2 (pos 1000000) (pos 0) 63
+
+-- "Effective length: 1, 3; it returns 0"; else "how many of the 64 values w exceed a 32-bit threshold"
+pub record Returns : Type 0 where
+  pub number : (N d t : ℕ) → OrderDelay N d (effectiveLength N d t .refusal)
+  pub refused : (N d t : ℕ) → (effectiveLength N d t .refusal ≡ 0 → ⊥) → effectiveLength N d t .count ≡ 0
+  pub many : (a1 a2 : ℤ) → length (values a1 a2) ≡ 64
+  pub order-1 : (d t : ℕ) → Between 2049 d 6144
+      → Exceed t (values (answer 1 d .a1) (pos 0)) (effectiveLength 1 d t .count)
+  pub order-2 : (d t : ℕ) → Between 6145 d 10240
+      → Exceed t (values (answer 2 d .a1) (answer 2 d .a2)) (effectiveLength 2 d t .count)

@@ -1,0 +1,77 @@
+-- What `coefficients` returns, from the tests of order and delay and from the theorems about the fractions.
+-- Assumes nothing.
+use mathlib.Core.Path.{_≡_, refl, sym, ap, subst, _∙_}
+use Prim.Native.Nat.{ℕ, _≤_, _<_}
+use native.Mathlib.Omega.{arith}
+use native.Mathlib.Decide.{ℕ-discrete}
+use lib.Dec.{lit≤}
+use lib.IntN.{ℤ, pos, natAbs, _*ℤ_}
+use Rattle.integer.specs.Rounding.{Nearest}
+use Rattle.integer.proofs.View.{Zs, absv, onev}
+use Rattle.integer.proofs.Ring.{*-assoc}
+use Rattle.integer.proofs.Rounding.{nearest-is, nearest-same}
+use Rattle.refusal.specs.Limits.{refusal}
+use Rattle.refusal.specs.Orders.{Takes}
+use Rattle.refusal.specs.Ranges.{order-1, order-2, OrderDelay}
+use Rattle.refusal.proofs.Ranges.{ranges, order-delay}
+use Rattle.thiran.specs.Formula.{a, Same, over}
+use Rattle.thiran.specs.Coefficients.{coefficient, coefficients}
+use Rattle.thiran.specs.Answers.{limits, answer}
+use Rattle.thiran.specs.Returns.{Returns}
+use Rattle.thiran.specs.declared.Answer.{Answer}
+use Rattle.thiran.proofs.Refusals.{takes, answer-refused, answer-taken}
+use Rattle.thiran.proofs.Theorems as T
+
+module _ (N d : ℕ) where
+  number-is : refusal (limits N d) ≡ answer N d .refusal
+  number-is = go (ℕ-discrete (refusal (limits N d)) 0)
+    where
+      go : Dec (refusal (limits N d) ≡ 0) → refusal (limits N d) ≡ answer N d .refusal
+      go (yes e) = e ∙ sym (ap (λ (r : Answer). r .refusal) (answer-taken N d (takes N d e)))
+      go (no f) = sym (ap (λ (r : Answer). r .refusal) (answer-refused N d f))
+
+  refused : (answer N d .refusal ≡ 0 → ⊥) → (answer N d .a1 ≡ pos 0) × (answer N d .a2 ≡ pos 0)
+  refused f =
+      let e = answer-refused N d (λ z. f (sym number-is ∙ z)) in
+      (ap (λ (r : Answer). r .a1) e, ap (λ (r : Answer). r .a2) e)
+
+-- a coefficient is nearest to 65,536 times any fraction that equals the formula's
+module _ (N d k : ℕ) (t : Takes N d) (h : 1 ≤ k) where
+  abbrev bottom : ℤ
+  bottom = a N d k .bottom
+
+  bottom-is : pos (natAbs bottom) ≡ bottom
+  bottom-is = omega (Zs, absv bottom, onev bottom, T.theorem N d t .above k h)
+
+  nearest-by : (p : ℤ) (q : ℕ) → 0 < q → Same (a N d k) (over p (pos q))
+      → Nearest (pos 65536 *ℤ p) q (coefficient N d k)
+  unfolding coefficient
+  nearest-by p q g s =
+      let n = pos 65536 in
+      let top = a N d k .top in
+      let cross : n *ℤ top *ℤ pos q ≡ n *ℤ p *ℤ pos (natAbs bottom) =
+      *-assoc n top (pos q) ∙ ap (λ (z : ℤ). n *ℤ z) (s .cross) ∙ sym (*-assoc n p bottom)
+      ∙ ap (λ (z : ℤ). n *ℤ p *ℤ z) (sym bottom-is) in
+      let above : 0 < natAbs bottom = omega (Zs, absv bottom, T.theorem N d t .above k h) in
+      subst (λ (A : ℤ). Nearest (n *ℤ p) q A)
+      (sym (nearest-same (n *ℤ top) (n *ℤ p) (natAbs bottom) q above g cross))
+      (nearest-is (n *ℤ p) q g)
+
+pub returns : Returns
+unfolding coefficients
+returns = record {
+  number = λ N d. subst (λ (n : ℕ). OrderDelay N d n) (number-is N d) (order-delay N d);
+  refused = refused;
+  order-1 = λ d b.
+      let t = ranges .takes 1 d .1 (order-1 b) in
+      rw (answer-taken 1 d t) (record {
+        a1 = nearest-by 1 d 1 t (lit≤ tt) _ _ (omega arith) (T.order-1 d .a1);
+        a2 = refl;
+      });
+  order-2 = λ d b.
+      let t = ranges .takes 2 d .1 (order-2 b) in
+      rw (answer-taken 2 d t) (record {
+        a1 = nearest-by 2 d 1 t (lit≤ tt) _ _ (omega arith) (T.order-2 d .a1);
+        a2 = nearest-by 2 d 2 t (lit≤ tt) _ _ (omega arith) (T.order-2 d .a2);
+      });
+}
