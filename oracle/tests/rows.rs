@@ -49,6 +49,14 @@ fn every_refusal_of_a_record_and_of_a_note_is_reached() {
 }
 
 #[test]
+fn every_refusal_of_a_score_is_reached() {
+    let scores = module("ScoreRows").expect("the module ScoreRows");
+    for number in [0, 1, 2, 3, 5, 6, 7, 8, 14, 15, 16] {
+        assert!(scores.contains(&format!("number = {number};")), "{number}");
+    }
+}
+
+#[test]
 fn a_row_is_written_in_antt() {
     for (_, print) in MODULES {
         assert!(print().lines().all(|line| line.chars().count() < 110));

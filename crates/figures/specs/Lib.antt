@@ -2,4 +2,5 @@ pub mod Starred
 pub mod Rows
 pub mod RecordRows
 pub mod NoteRows
+pub mod ScoreRows
 pub mod Instances

@@ -29,7 +29,7 @@ without-all : (b : ℕ) {c : ℕ} → c ≡ 0 → without b c ≡ b
 without-all b e = rw e refl
 
 module _ (m : ℕ) where
-  down : (k : ℕ) → (Stands m k → ⊥) → bit m k ≡ 0
+  pub down : (k : ℕ) → (Stands m k → ⊥) → bit m k ≡ 0
   down k f = low (bit m k) (omega arith) f
 
   -- ---- 15
@@ -39,7 +39,7 @@ module _ (m : ℕ) where
   abbrev changes : ℕ
   changes = without (bit m 7) (bit m 1 + bit m 2)
 
-  well : (IllFormed m → ⊥) → illFormed m ≡ 0
+  pub well : (IllFormed m → ⊥) → illFormed m ≡ 0
   well f =
       let p : plucks ≡ 0 = without-none (bit m 5 + bit m 6) (bit m 4) (λ z.
       let none : Stands m 4 → ⊥ = λ s. omega (arith, z, s) in
@@ -48,7 +48,7 @@ module _ (m : ℕ) where
       down 7 (λ s. f (instant s (λ u. omega (arith, z, u)) (λ u. omega (arith, z, u))))) in
       omega (arith, p, c)
 
-  ill : IllFormed m → illFormed m ≡ 0 → ⊥
+  pub ill : IllFormed m → illFormed m ≡ 0 → ⊥
   ill (count s f) e = omega (arith, e, s, without-all (bit m 5 + bit m 6) (down 4 f))
   ill (seed s f) e = omega (arith, e, s, without-all (bit m 5 + bit m 6) (down 4 f))
   ill (instant s f g) e =
@@ -73,10 +73,10 @@ module _ (m : ℕ) where
   change-ill (no a) (yes b) c f =
       absurd (f (without-none (bit m 7) (bit m 1 + bit m 2) (λ z. absurd (omega (arith, z, b)))))
 
-  stands : (k : ℕ) → Dec (Stands m k)
+  pub stands : (k : ℕ) → Dec (Stands m k)
   stands k = ℕ-discrete (bit m k) 1
 
-  found : (illFormed m ≡ 0 → ⊥) → IllFormed m
+  pub found : (illFormed m ≡ 0 → ⊥) → IllFormed m
   found f = go (ℕ-discrete plucks 0)
     where
       go : Dec (plucks ≡ 0) → IllFormed m
@@ -84,7 +84,7 @@ module _ (m : ℕ) where
       go (yes p) = change-ill (stands 1) (stands 2) (stands 7) (λ c. f (omega (arith, p, c)))
 
   -- ---- the bytes of a record
-  bytes-are : bytes m ≡ 1 + fieldBytes m
+  pub bytes-are : bytes m ≡ 1 + fieldBytes m
   bytes-are = omega arith
 
 -- ---- a field

@@ -6,19 +6,21 @@ use mathlib.Core.List.{List, [], _∷_}
 use mathlib.Core.Option.{Option, none, some}
 use Prim.Native.Nat.{ℕ, zero, suc, _+_, _*_, _-_, _≤_, _<_}
 use native.Mathlib.Omega.{arith}
-use native.Mathlib.Decide.{decLe}
+use native.Mathlib.Decide.{decLe, ℕ-discrete}
 use lib.IntN.{ℤ}
 use lib.ListN.{length, getD, drop, length-drop}
 use Rattle.refusal.specs.Orders.{orders, lowest, highest}
 use Rattle.rule.specs.Voice.{Waiting}
 use Rattle.rule.specs.State.{State, call}
 use Rattle.rule.specs.Calls.{Call}
-use Rattle.rule.specs.Refusals.{Between}
-use Rattle.record.specs.Record.{bit, mapOf, field}
+use Rattle.refusal.specs.Limits.{Between}
+use Rattle.record.specs.Record.{mapOf, illFormed, field}
+use Rattle.record.specs.Returns.{IllFormed}
+use Rattle.record.proofs.Returns.{ill, found, stands}
 use Rattle.score.specs.declared.Played.{Played}
 use Rattle.score.specs.Played.{Runs}
-use Rattle.score.specs.Reached.{header, Opens, OrderIn, LengthIn, DelayIn, LossIn, AdvanceIn, Stands, Lacks, size}
-use Rattle.score.specs.Reached.{IllFormed, count-alone, seed-alone, instant-alone, Readable, waited}
+use Rattle.score.specs.Reached.{header, Opens, OrderIn, LengthIn, DelayIn, LossIn, AdvanceIn, Has, Lacks, size}
+use Rattle.score.specs.Reached.{Readable, waited}
 use Rattle.score.specs.Reached.{SetsLoss, as-it-was, set, Given, present, absent, AsksChange, Delayed}
 use Rattle.score.specs.Reached.{MakesChange, no-change, changed, MakesPluck, no-pluck, plucked}
 use Rattle.score.specs.Reached.{Reached, first, later}
@@ -26,7 +28,7 @@ use Rattle.score.specs.Ends.{HeaderRefused, RecordRefused, LossRefused, 
 use Rattle.score.specs.Ends.{cut, order, long, delay, loss, advance, ill-formed, full, loss-outside, waits}
 use Rattle.score.specs.Ends.{amplitude, count}
 use Rattle.score.specs.Ends.{Ends, unopened, record-refused, lossless, unchanged, unplucked, success, Answered}
-use Rattle.score.proofs.Parts.{bit-is, kind}
+use Rattle.score.proofs.Parts.{kind}
 use Rattle.score.proofs.Standing.{Standing, standing}
 use Rattle.score.proofs.Ending.{Returns, ending}
 
@@ -43,12 +45,12 @@ idle : (w : Option Waiting) → (w ≡ none) ⊎ (w ≡ none → ⊥)
 idle none = inl refl
 idle (some w) = inr (λ e. let z : _≡_ {A = ℕ} 0 1 = cc in omega arith)
 
+decided : {A : Type 0} → Dec A → A ⊎ (A → ⊥)
+decided (yes a) = inl a
+decided (no f) = inr f
+
 pub at-most : (x y : ℕ) → (x ≤ y) ⊎ (x ≤ y → ⊥)
-at-most x y = go (decLe x y)
-  where
-    go : Dec (x ≤ y) → (x ≤ y) ⊎ (x ≤ y → ⊥)
-    go (yes h) = inl h
-    go (no f) = inr f
+at-most x y = decided (decLe x y)
 
 -- what goes on where A holds, and is refused where it does not
 try : {A B C : Type 0} → A ⊎ (A → ⊥) → ((A → ⊥) → B) → (A → C ⊎ B) → C ⊎ B
@@ -68,33 +70,18 @@ opens-or s =
 
 -- ---- the parts of a record are accepted, or refused
 module _ (t : List ℕ) where
+  has : (k : ℕ) → Has t k ⊎ Lacks t k
+  has k = decided (stands (mapOf t) k)
+
   given : (k y : ℕ) → (x : ℕ) × Given t k y x
-  given k y = ⊎-elim (λ e. (y, absent e refl)) (λ e. (field t k, present e refl)) (bit-is (mapOf t) k)
+  given k y = ⊎-elim (λ e. (field t k, present e refl)) (λ e. (y, absent e refl)) (has k)
 
-  not-ill : (Lacks t 4 → Lacks t 5 × Lacks t 6) → (Stands t 7 → Lacks t 1 → Lacks t 2 → ⊥) → IllFormed t → ⊥
-  not-ill p c (count-alone e i) = omega (arith, p i)
-  not-ill p c (seed-alone e i) = omega (arith, p i)
-  not-ill p c (instant-alone e i j) = c e i j
-
-  ill-or : IllFormed t ⊎ (IllFormed t → ⊥)
-  ill-or =
-      ⊎-elim
-      (λ e.
-      ⊎-elim
-      (λ i.
-      ⊎-elim (λ j. changes (λ z. (i, j))) (λ j. inl (seed-alone j e)) (bit-is (mapOf t) 6))
-      (λ i. inl (count-alone i e)) (bit-is (mapOf t) 5))
-      (λ e. changes (λ z. absurd (omega arith))) (bit-is (mapOf t) 4)
+  ill-or : IllFormed (mapOf t) ⊎ (IllFormed (mapOf t) → ⊥)
+  ill-or = go (ℕ-discrete (illFormed (mapOf t)) 0)
     where
-      changes : (Lacks t 4 → Lacks t 5 × Lacks t 6) → IllFormed t ⊎ (IllFormed t → ⊥)
-      changes p =
-          ⊎-elim (λ e. inr (not-ill p (λ z i j. omega arith)))
-          (λ e.
-          ⊎-elim
-          (λ i.
-          ⊎-elim (λ j. inl (instant-alone e i j)) (λ j. inr (not-ill p (λ z x y. omega arith)))
-          (bit-is (mapOf t) 2))
-          (λ i. inr (not-ill p (λ z x y. omega arith))) (bit-is (mapOf t) 1)) (bit-is (mapOf t) 7)
+      go : Dec (illFormed (mapOf t) ≡ 0) → IllFormed (mapOf t) ⊎ (IllFormed (mapOf t) → ⊥)
+      go (yes e) = inr (λ i. ill (mapOf t) i e)
+      go (no f) = inl (found (mapOf t) f)
 
   pub readable-or : (left : ℕ) → Readable t left ⊎ ((n : ℕ) × RecordRefused t left n)
   readable-or left =
@@ -104,21 +91,19 @@ module _ (t : List ℕ) where
       inl (record { whole = w; formed = e; fits = h })) ill-or
 
   pub loss-or : (v : State) → ((u : State) × SetsLoss t v u) ⊎ ((n : ℕ) × LossRefused t n)
-  loss-or v = ⊎-elim (λ e. inl (v, as-it-was e refl)) there (bit-is (mapOf t) 3)
+  loss-or v = ⊎-elim there (λ e. inl (v, as-it-was e refl)) (has 3)
     where
-      there : Stands t 3 → ((u : State) × SetsLoss t v u) ⊎ ((n : ℕ) × LossRefused t n)
+      there : Has t 3 → ((u : State) × SetsLoss t v u) ⊎ ((n : ℕ) × LossRefused t n)
       there e =
           try (between 0 (field t 3) 65535) (λ f. (4, loss-outside e f)) λ b.
           inl (call v (Call.loss (field t 3)), set e b refl)
 
   pub change-or : (v : State) → ((u : State) × MakesChange t v u) ⊎ ((n : ℕ) × ChangeRefused t v n)
   change-or v =
-      ⊎-elim
-      (λ e. ⊎-elim (λ i. inl (v, no-change e i refl)) (λ i. there (omega arith)) (bit-is (mapOf t) 2))
-      (λ e. there (omega arith)) (bit-is (mapOf t) 1)
+      ⊎-elim (λ e. there (λ f g. f e))
+      (λ f. ⊎-elim (λ e. there (λ g h. h e)) (λ g. inl (v, no-change f g refl)) (has 2)) (has 1)
     where
-      there : 0 < bit (mapOf t) 1 + bit (mapOf t) 2
-          → ((u : State) × MakesChange t v u) ⊎ ((n : ℕ) × ChangeRefused t v n)
+      there : (Lacks t 1 → Lacks t 2 → ⊥) → ((u : State) × MakesChange t v u) ⊎ ((n : ℕ) × ChangeRefused t v n)
       there h =
           let L = given 1 (v .voice .tuning .L) in
           let d = given 2 (v .voice .tuning .d) in
@@ -131,9 +116,9 @@ module _ (t : List ℕ) where
           inl (call v (c .0), changed a l k w (c .1) refl)
 
   pub pluck-or : (v : State) → ((u : State) × MakesPluck t v u) ⊎ ((n : ℕ) × PluckRefused t v n)
-  pluck-or v = ⊎-elim (λ e. inl (v, no-pluck e refl)) there (bit-is (mapOf t) 4)
+  pluck-or v = ⊎-elim there (λ e. inl (v, no-pluck e refl)) (has 4)
     where
-      there : Stands t 4 → ((u : State) × MakesPluck t v u) ⊎ ((n : ℕ) × PluckRefused t v n)
+      there : Has t 4 → ((u : State) × MakesPluck t v u) ⊎ ((n : ℕ) × PluckRefused t v n)
       there e =
           let n = given 5 (v .voice .tuning .L) in
           try (between 0 (field t 4) 255) (λ f. (7, amplitude e f)) λ a.

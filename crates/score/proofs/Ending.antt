@@ -4,16 +4,18 @@ use mathlib.Core.Path.{_≡_, refl, sym, ap, subst, _∙_}
 use mathlib.Core.List.{List, [], _∷_}
 use Prim.Native.Nat.{ℕ, _+_, _-_, _≤_, _<_}
 use native.Mathlib.Omega.{arith}
+use native.Mathlib.Nat.{lt-irrefl, lt-of-lt-of-le}
 use lib.IntN.{ℤ}
 use lib.ListN.{length, drop, length-drop}
 use Rattle.refusal.specs.Limits.{refusal}
-use Rattle.refusal.specs.Returned.{none, more}
+use Rattle.refusal.specs.Returned.{Kept, none, more}
 use Rattle.refusal.proofs.Returned.{past, kept-is}
 use Rattle.rule.specs.Calls.{openLimits}
 use Rattle.rule.specs.State.{State, fresh, puts}
 use Rattle.rule.proofs.Refusals.{refuses}
 use Rattle.record.specs.Record.{mapOf, bytes, field, fields, whole, formed}
 use Rattle.record.proofs.Reading.{good-map, taken-fields}
+use Rattle.record.proofs.Returns.{well, ill, bytes-are}
 use Rattle.follow.specs.Follow.{value, waitCalls, lossCalls, changeCalls, pluckCalls, then, actCalls, recordCalls}
 use Rattle.follow.proofs.Waits.{wait-taken}
 use Rattle.score.specs.Run.{opening, fits, playLimits, headerLimits, allRecords}
@@ -27,8 +29,7 @@ use Rattle.score.proofs.Header.{header-cut, header-whole, run-refused, 
 use Rattle.score.proofs.Turns.{stopped}
 use Rattle.score.proofs.Parts.{Yields, r, first-then, first-ends, sets-loss, loss-refused, makes-change}
 use Rattle.score.proofs.Parts.{change-refused, pluck-refused}
-use Rattle.score.proofs.Standing.{Standing, standing, good, wait-is, well-formed, room, some-left, passes}
-use Rattle.score.proofs.Standing.{ill-formed as ill}
+use Rattle.score.proofs.Standing.{Standing, standing, good, wait-is, kept-whole, kept-formed, room, some-left, passes}
 
 -- the run of s over out returns n, k and w
 pub record Returns (s : List ℕ) (out : List ℤ) (n k w : ℕ) : Type 0 where
@@ -71,29 +72,33 @@ module _ {s : List ℕ} {out : List ℤ} {k : ℕ} {v : State} {left at : ℕ} (
       (omega (arith, length-drop at s)))
 
   -- "14, 15 and 16 come before any sample of the record"
+  not-whole : length t < size t → Kept (whole t) → ⊥
+  not-whole h a =
+      let l = subst (λ (n : ℕ). n ≤ length t) (bytes-are (mapOf t)) (a .least) in
+      lt-irrefl (length t) (lt-of-lt-of-le h l)
+
   number-is : {n : ℕ} → RecordRefused (drop at s) left n
       → (n ≡ refusal (playLimits (drop at s) left)) × (n ≡ 0 → ⊥)
   number-is (cut h) = (
     sym (play-returned t left .refused [] (formed (mapOf t) ∷ fits (fields t) left ∷ []) (whole t) refl .1
-        (none, λ a. omega (arith, a .least))),
+        (none, λ a. not-whole h a)),
     λ z. omega arith,
   )
   number-is (ill-formed h i) = (
     sym (play-returned t left .refused (whole t ∷ []) (fits (fields t) left ∷ []) (formed (mapOf t)) refl .1 (
-      more (record { least = omega arith; most = omega arith }) none,
-      λ a. ill t i (omega (arith, a .most)),
+      more (kept-whole t h) none,
+      λ a. ill (mapOf t) i (omega (arith, a .most)),
     )),
     λ z. omega arith,
   )
   number-is (full h f i) = (
     sym (play-returned t left .refused (whole t ∷ formed (mapOf t) ∷ []) [] (fits (fields t) left) refl .1 (
-      more (record { least = omega arith; most = omega arith })
-          (more (record { least = omega arith; most = omega (arith, well-formed t f) }) none),
+      more (kept-whole t h) (more (kept-formed t f) none),
       λ a. omega (
         arith,
         a .most,
         ap (λ (l : List ℕ). value l 0)
-            (sym (taken-fields t (good-map t (omega arith) (well-formed t f)))),
+            (sym (taken-fields t (good-map t (kept-whole t h .least) (well (mapOf t) f)))),
       ),
     )),
     λ z. omega arith,

@@ -3,8 +3,7 @@
 use mathlib.Core.Path.{_≡_, refl, sym, ap, subst, _∙_}
 use mathlib.Core.Bool.{cond}
 use mathlib.Core.List.{List, [], _∷_, _++_}
-use mathlib.Core.Logic.{_⊎_, inl, inr}
-use Prim.Native.Nat.{ℕ, zero, suc, _+_, _<_}
+use Prim.Native.Nat.{ℕ, _+_}
 use native.Mathlib.Omega.{arith}
 use borrow.Author.Tests.{eq-eqb, ne-eqb}
 use lib.Dec.{eqb}
@@ -13,23 +12,15 @@ use Rattle.rule.specs.State.{State, call, from}
 use Rattle.rule.specs.Refusals.{ChangeReturns}
 use Rattle.rule.proofs.Refusals.{refuses}
 use Rattle.record.specs.Record.{bit, mapOf, field, read}
-use Rattle.follow.specs.Follow.{value, stands, lossCalls, lengthTo, delayTo, change, changeCalls, countOf}
+use Rattle.record.proofs.Returns.{down, stands}
+use Rattle.follow.specs.Follow.{lossCalls, lengthTo, delayTo, change, changeCalls, countOf}
 use Rattle.follow.specs.Follow.{pluckCalls, result, then}
 use Rattle.follow.proofs.Sequence.{from-append, result-past, result-one, then-past, then-stops}
-use Rattle.score.specs.Reached.{Stands, Lacks, SetsLoss, as-it-was, set, Given, present, absent}
+use Rattle.score.specs.Reached.{Has, Lacks, SetsLoss, as-it-was, set, Given, present, absent}
 use Rattle.score.specs.Reached.{AsksChange, Kind, announced, instantly, MakesChange, no-change, changed}
 use Rattle.score.specs.Reached.{MakesPluck, no-pluck, plucked}
 use Rattle.score.specs.Ends.{LossRefused, loss-outside, ChangeRefused, long, delay, waits}
 use Rattle.score.specs.Ends.{PluckRefused, amplitude, count}
-
--- a bit stands or does not
-pub bit-is : (map k : ℕ) → (bit map k ≡ 0) ⊎ (bit map k ≡ 1)
-bit-is map k = go (bit map k) (omega arith)
-  where
-    go : (b : ℕ) → b < 2 → (b ≡ 0) ⊎ (b ≡ 1)
-    go zero h = inl refl
-    go (suc zero) h = inr refl
-    go (suc (suc b)) h = absurd (omega arith)
 
 -- the calls cs on v end with the number n, and leave u
 pub record Yields (v : State) (cs : List Call) (n : ℕ) (u : State) : Type 0 where
@@ -87,10 +78,10 @@ module _ (t : List ℕ) where
 
   chosen : (k : ℕ) (y : ℕ) {x : ℕ} → Given t k y x → x ≡ cond (eqb (bit (mapOf t) k) 0) y (field t k)
   chosen k y (present e i) = rw (ne-eqb (bit (mapOf t) k) 0 (λ z. omega arith)) i
-  chosen k y (absent e i) = rw (eq-eqb (bit (mapOf t) k) 0 e) i
+  chosen k y (absent e i) = rw (eq-eqb (bit (mapOf t) k) 0 (down (mapOf t) k e)) i
 
   pub sets-loss : {v u : State} → SetsLoss t v u → Yields v (lossCalls r v) 0 u
-  sets-loss {v} (as-it-was e i) = left-out v (bit (mapOf t) 3) (loss (field t 3)) e i
+  sets-loss {v} (as-it-was e i) = left-out v (bit (mapOf t) 3) (loss (field t 3)) (down (mapOf t) 3 e) i
   sets-loss {v} (set e b i) =
       made v (bit (mapOf t) 3) (loss (field t 3)) (λ z. omega arith)
       (refuses .losses (v .voice) (field t 3) .accepted .1 b) i
@@ -111,7 +102,7 @@ module _ (t : List ℕ) where
     change-is : {c : Call} → Kind t L d c → c ≡ change r v
     change-is (announced e i) =
         i ∙ rw (
-          eq-eqb (bit (mapOf t) 7) 0 e,
+          eq-eqb (bit (mapOf t) 7) 0 (down (mapOf t) 7 e),
           ← chosen 1 (v .voice .tuning .L) (a .long),
           ← chosen 2 (v .voice .tuning .d) (a .delay),
         )
@@ -126,7 +117,7 @@ module _ (t : List ℕ) where
         → Yields v (changeCalls r v) n u
     makes {c} {n} {u} k e i =
         let z = change-is k in
-        made v either (change r v) (λ o. omega (arith, a .some))
+        made v either (change r v) (λ o. a .some (λ z. omega arith) (λ z. omega arith))
         (ap (λ (x : Call). number (v .voice) x) (sym z) ∙ e) (i ∙ ap (λ (x : Call). call v x) z)
 
   returns : (v : State) (L d : ℕ) {c : Call} → Kind t L d c → ChangeReturns (v .voice) L d (number (v .voice) c)
@@ -134,16 +125,16 @@ module _ (t : List ℕ) where
   returns v L d (instantly e i) = rw i (refuses .instants (v .voice) L d)
 
   pub makes-change : {v u : State} → MakesChange t v u → Yields v (changeCalls r v) 0 u
-  makes-change {v} (no-change e f i) = left-out v either (change r v) (omega arith) i
+  makes-change {v} (no-change e f i) = left-out v either (change r v) (omega (arith, down (mapOf t) 1 e, down (mapOf t) 2 f)) i
   makes-change {v} (changed {L} {d} a l k w o i) =
       makes v a o (returns v L d o .accepted .1 (l, (k, w))) i
 
   pub kind : (L d : ℕ) → (c : Call) × Kind t L d c
-  kind L d = go (bit-is (mapOf t) 7)
+  kind L d = go (stands (mapOf t) 7)
     where
-      go : Lacks t 7 ⊎ Stands t 7 → (c : Call) × Kind t L d c
-      go (inl e) = (announce L d, announced e refl)
-      go (inr e) = (instant L d, instantly e refl)
+      go : Dec (Has t 7) → (c : Call) × Kind t L d c
+      go (no e) = (announce L d, announced e refl)
+      go (yes e) = (instant L d, instantly e refl)
 
   pub change-refused : {n : ℕ} {v : State} → ChangeRefused t v n
       → (u : State) × Yields v (changeCalls r v) n u × (n ≡ 0 → ⊥)
@@ -158,7 +149,7 @@ module _ (t : List ℕ) where
       (call v (k .0), makes v a (k .1) (returns v L d (k .1) .waits .1 (l, (e, f))) refl, λ z. omega arith)
 
   -- a pluck
-  module _ (v : State) {n : ℕ} (e : Stands t 4) (g : Given t 5 (v .voice .tuning .L) n) where
+  module _ (v : State) {n : ℕ} (e : Has t 4) (g : Given t 5 (v .voice .tuning .L) n) where
     plucks : {m : ℕ} {u : State} → number (v .voice) (pluck (field t 4) n (field t 6)) ≡ m
         → u ≡ call v (pluck (field t 4) n (field t 6)) → Yields v (pluckCalls r v) m u
     plucks p i =
@@ -167,7 +158,7 @@ module _ (t : List ℕ) where
 
   pub makes-pluck : {v u : State} → MakesPluck t v u → Yields v (pluckCalls r v) 0 u
   makes-pluck {v} (no-pluck e i) =
-      left-out v (bit (mapOf t) 4) (pluck (field t 4) (countOf r v) (field t 6)) e i
+      left-out v (bit (mapOf t) 4) (pluck (field t 4) (countOf r v) (field t 6)) (down (mapOf t) 4 e) i
   makes-pluck {v} (plucked {n} e a g k i) =
       plucks v e g (refuses .plucks (v .voice) (field t 4) n (field t 6) .accepted .1 (a, k)) i
 

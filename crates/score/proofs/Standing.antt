@@ -1,76 +1,49 @@
 -- A record that is reached is one that the run stands before: what was played, and what is left of the run.
 -- Assumes nothing.
 use mathlib.Core.Path.{_≡_, refl, sym, ap, subst, _∙_}
-use mathlib.Core.Logic.{⊎-elim}
 use mathlib.Core.List.{List, [], _∷_}
 use Prim.Native.Nat.{ℕ, zero, suc, _+_, _-_, _≤_, _<_}
 use native.Mathlib.Omega.{arith}
+use native.Mathlib.Nat.{le-refl, le-of-eq}
 use lib.IntN.{ℤ}
 use lib.ListN.{length, drop, length-drop}
 use lib.Seq.{drop-drop}
 use Rattle.refusal.specs.Limits.{refusal}
-use Rattle.refusal.specs.Returned.{none, more}
+use Rattle.refusal.specs.Returned.{Kept, none, more}
 use Rattle.rule.specs.Calls.{Call}
 use Rattle.rule.specs.State.{State, fresh, from, puts}
-use Rattle.record.specs.Record.{bit, bytes, mapOf, without, illFormed, field, read, fields, rest, recordNumber}
+use Rattle.record.specs.Record.{mapOf, field, fields, rest, recordNumber, whole, formed}
+use Rattle.record.specs.Returns.{IllFormed}
 use Rattle.record.proofs.Reading.{good-map, taken-fields, taken-rest}
+use Rattle.record.proofs.Returns.{well, bytes-are}
 use Rattle.follow.specs.Follow.{value, result, lossCalls, changeCalls, pluckCalls, waitCalls, then, actCalls, recordCalls}
 use Rattle.follow.proofs.Waits.{wait-taken}
 use Rattle.score.specs.Run.{opening, playLimits}
-use Rattle.score.specs.Reached.{Opens, Stands, Lacks, size, IllFormed, count-alone, seed-alone, instant-alone}
-use Rattle.score.specs.Reached.{Readable, waited, SetsLoss, MakesChange, MakesPluck, Reached, first, later}
+use Rattle.score.specs.Reached.{Opens, size, Readable, waited, SetsLoss, MakesChange, MakesPluck, Reached, first, later}
 use Rattle.score.proofs.Playing.{Playing, begun, play-returned}
 use Rattle.score.proofs.Turns.{goes-on}
-use Rattle.score.proofs.Parts.{Yields, r, bit-is, first-then, sets-loss, makes-change, makes-pluck}
-
--- ---- a bit map that is well formed, in bits
-well : (b c : ℕ) → (0 < b → 0 < c) → without b c ≡ 0
-well zero zero f = refl
-well (suc b) zero f = absurd (omega (arith, f (omega arith)))
-well b (suc c) f = refl
-
-alone : (b c : ℕ) → 0 < b → c ≡ 0 → without b c ≡ 0 → ⊥
-alone b zero h e z = omega arith
-alone b (suc c) h e z = omega arith
+use Rattle.score.proofs.Parts.{Yields, r, first-then, sets-loss, makes-change, makes-pluck}
 
 module _ (t : List ℕ) where
-  abbrev b : ℕ → ℕ
-  b = bit (mapOf t)
+  pub kept-whole : size t ≤ length t → Kept (whole t)
+  kept-whole h = record {
+    least = subst (λ (n : ℕ). n ≤ length t) (sym (bytes-are (mapOf t))) h;
+    most = le-refl (length t);
+  }
 
-  pub well-formed : (IllFormed t → ⊥) → illFormed (mapOf t) ≡ 0
-  well-formed f = omega (arith, well (b 5 + b 6) (b 4) plucks, well (b 7) (b 1 + b 2) changes)
-    where
-      plucks : 0 < b 5 + b 6 → 0 < b 4
-      plucks h =
-          ⊎-elim
-          (λ e. ⊎-elim
-          (λ i. ⊎-elim (λ j. omega arith) (λ j. absurd (f (seed-alone j e))) (bit-is (mapOf t) 6))
-          (λ i. absurd (f (count-alone i e))) (bit-is (mapOf t) 5))
-          (λ e. omega arith) (bit-is (mapOf t) 4)
-
-      changes : 0 < b 7 → 0 < b 1 + b 2
-      changes h =
-          ⊎-elim
-          (λ e. ⊎-elim (λ i. absurd (f (instant-alone (omega arith) e i))) (λ i. omega arith)
-          (bit-is (mapOf t) 2))
-          (λ e. omega arith) (bit-is (mapOf t) 1)
-
-  pub ill-formed : IllFormed t → illFormed (mapOf t) ≡ 0 → ⊥
-  ill-formed (count-alone e i) z = alone (b 5 + b 6) (b 4) (omega arith) i (omega arith)
-  ill-formed (seed-alone e i) z = alone (b 5 + b 6) (b 4) (omega arith) i (omega arith)
-  ill-formed (instant-alone e i j) z = alone (b 7) (b 1 + b 2) (omega arith) (omega arith) (omega arith)
+  pub kept-formed : (IllFormed (mapOf t) → ⊥) → Kept (formed (mapOf t))
+  kept-formed f = record { least = omega arith; most = le-of-eq (well (mapOf t) f) }
 
   module _ {left : ℕ} (a : Readable t left) where
     pub good : 0 ≡ recordNumber t
-    good = good-map t (omega (arith, a .whole)) (well-formed (a .formed))
+    good = good-map t (kept-whole (a .whole) .least) (well (mapOf t) (a .formed))
 
     pub wait-is : value (fields t) 0 ≡ field t 0
     wait-is = ap (λ (l : List ℕ). value l 0) (sym (taken-fields t good))
 
     pub readable : refusal (playLimits t left) ≡ 0
     readable = play-returned t left .accepted .1
-        (more (record { least = omega (arith, a .whole); most = omega arith })
-        (more (record { least = omega arith; most = omega (arith, well-formed (a .formed)) })
+        (more (kept-whole (a .whole)) (more (kept-formed (a .formed))
         (more (record { least = omega arith; most = omega (arith, wait-is, a .fits) }) none)))
 
     -- what it does is what its calls do
@@ -116,9 +89,8 @@ module _ {s : List ℕ} {out : List ℤ} {k : ℕ} {v : State} {left at : ℕ} (
     onward {u} y =
         let e : done + value (fields t) 0 ≡ length out - (left - field t 0)
         = omega (arith, wait-is t q, q .fits, g .few) in
-        let byte : bytes (mapOf t) ≡ size t = omega arith in
         let tail : rest t ≡ drop (at + size t) s
-        = sym (taken-rest t (good t q)) ∙ ap (λ (n : ℕ). drop n t) byte ∙ drop-drop (size t) at s in
+        = sym (taken-rest t (good t q)) ∙ ap (λ (n : ℕ). drop n t) (bytes-are (mapOf t)) ∙ drop-drop (size t) at s in
         let next = goes-on (drop 8 s) (fresh (opening s)) out v t k done (g .now) (g .playing) some-left passes
         (puts v (recordCalls (fields t) v)) refl (sym e) (y .number) (sym (y .state)) in
         record {

@@ -6,11 +6,12 @@ use mathlib.Core.List.{List}
 use mathlib.Core.Option.{none}
 use Prim.Native.Nat.{ℕ, _-_, _≤_, _<_}
 use lib.ListN.{length, getD, drop}
+use Rattle.refusal.specs.Limits.{Between}
 use Rattle.rule.specs.State.{State}
-use Rattle.rule.specs.Refusals.{Between}
-use Rattle.record.specs.Record.{field}
+use Rattle.record.specs.Record.{mapOf, field}
+use Rattle.record.specs.Returns.{IllFormed}
 use Rattle.score.specs.declared.Played.{Played}
-use Rattle.score.specs.Reached.{OrderIn, LengthIn, DelayIn, LossIn, AdvanceIn, Stands, size, IllFormed}
+use Rattle.score.specs.Reached.{OrderIn, LengthIn, DelayIn, LossIn, AdvanceIn, Has, size}
 use Rattle.score.specs.Reached.{Readable, waited, SetsLoss, Given, AsksChange, Delayed, MakesChange, Reached}
 
 -- "14 in the header, then Open's"
@@ -26,12 +27,12 @@ pub data HeaderRefused (s : List ℕ) : ℕ → Type 0 where
 -- "for each record 14, 15, 16 the wait doesn't fit the output left"
 pub data RecordRefused (t : List ℕ) (left : ℕ) : ℕ → Type 0 where
   cut : length t < size t → RecordRefused t left 14
-  ill-formed : size t ≤ length t → IllFormed t → RecordRefused t left 15
-  full : size t ≤ length t → (IllFormed t → ⊥) → left < field t 0 → RecordRefused t left 16
+  ill-formed : size t ≤ length t → IllFormed (mapOf t) → RecordRefused t left 15
+  full : size t ≤ length t → (IllFormed (mapOf t) → ⊥) → left < field t 0 → RecordRefused t left 16
 
 -- "then those of change and pluck", and of the loss
 pub data LossRefused (t : List ℕ) : ℕ → Type 0 where
-  loss-outside : Stands t 3 → (Between 0 (field t 3) 65535 → ⊥) → LossRefused t 4
+  loss-outside : Has t 3 → (Between 0 (field t 3) 65535 → ⊥) → LossRefused t 4
 
 pub data ChangeRefused (t : List ℕ) (v : State) : ℕ → Type 0 where
   long : {L d : ℕ} → AsksChange t v L d → (Between 1 L 2048 → ⊥) → ChangeRefused t v 2
@@ -40,8 +41,8 @@ pub data ChangeRefused (t : List ℕ) (v : State) : ℕ → Type 0 where
       → ChangeRefused t v 6
 
 pub data PluckRefused (t : List ℕ) (v : State) : ℕ → Type 0 where
-  amplitude : Stands t 4 → (Between 0 (field t 4) 255 → ⊥) → PluckRefused t v 7
-  count : {n : ℕ} → Stands t 4 → Between 0 (field t 4) 255 → Given t 5 (v .voice .tuning .L) n
+  amplitude : Has t 4 → (Between 0 (field t 4) 255 → ⊥) → PluckRefused t v 7
+  count : {n : ℕ} → Has t 4 → Between 0 (field t 4) 255 → Given t 5 (v .voice .tuning .L) n
       → (Between 1 n 2048 → ⊥) → PluckRefused t v 8
 
 -- ---- the run of the score s over so many places ends with this number, place and count of samples

@@ -6,11 +6,12 @@ use mathlib.Core.Option.{none}
 use Prim.Native.Nat.{ℕ, _+_, _*_, _-_, _≤_, _<_}
 use lib.IntN.{pos}
 use lib.ListN.{length, getD, drop, replicate}
+use Rattle.refusal.specs.Limits.{Between}
 use Rattle.refusal.specs.Orders.{orders, lowest, highest}
 use Rattle.rule.specs.Calls.{Call, Opening, block, loss, pluck, announce, instant}
 use Rattle.rule.specs.State.{State, call, fresh}
-use Rattle.rule.specs.Refusals.{Between}
-use Rattle.record.specs.Record.{bit, mapOf, field}
+use Rattle.record.specs.Record.{mapOf, field}
+use Rattle.record.specs.Returns.{Stands, IllFormed, fieldBytes}
 
 -- ---- the header
 -- "Header, 8 bytes: order and Na, a byte each, then L, d, G as 16-bit numbers, low byte first"
@@ -49,29 +50,21 @@ pub record Opens (s : List ℕ) : Type 0 where
   pub advance : AdvanceIn s
 
 -- ---- a record, in the bytes t
--- its bit k
-abbrev pub Stands : List ℕ → ℕ → Type 0
-Stands t k = bit (mapOf t) k ≡ 1
+-- its bit k stands, or is absent
+abbrev pub Has : List ℕ → ℕ → Type 0
+Has t k = Stands (mapOf t) k
 
 abbrev pub Lacks : List ℕ → ℕ → Type 0
-Lacks t k = bit (mapOf t) k ≡ 0
+Lacks t k = Has t k → ⊥
 
 -- its bytes: the bit map, and two for each of the bits 0 to 6 that stand
 abbrev pub size : List ℕ → ℕ
-size t =
-    let b = bit (mapOf t) in
-    1 + 2 * (b 0 + b 1 + b 2 + b 3 + b 4 + b 5 + b 6)
-
--- "15 bit 5 or 6 without 4, or bit 7 without 1 or 2"
-pub data IllFormed (t : List ℕ) : Type 0 where
-  count-alone : Stands t 5 → Lacks t 4 → IllFormed t
-  seed-alone : Stands t 6 → Lacks t 4 → IllFormed t
-  instant-alone : Stands t 7 → Lacks t 1 → Lacks t 2 → IllFormed t
+size t = 1 + fieldBytes (mapOf t)
 
 -- it is whole and well formed, and its wait fits the places left
 pub record Readable (t : List ℕ) (left : ℕ) : Type 0 where
   pub whole : size t ≤ length t
-  pub formed : IllFormed t → ⊥
+  pub formed : IllFormed (mapOf t) → ⊥
   pub fits : field t 0 ≤ left
 
 -- ---- what it does: the voice v becomes u
@@ -82,23 +75,23 @@ waited t v = call v (block (replicate (field t 0) (pos 0)) (field t 0))
 -- "then sets G"; "G as it was" where it is absent
 pub data SetsLoss (t : List ℕ) (v u : State) : Type 0 where
   as-it-was : Lacks t 3 → u ≡ v → SetsLoss t v u
-  set : Stands t 3 → Between 0 (field t 3) 65535 → u ≡ call v (loss (field t 3)) → SetsLoss t v u
+  set : Has t 3 → Between 0 (field t 3) 65535 → u ≡ call v (loss (field t 3)) → SetsLoss t v u
 
 -- x is field k, and y where that is absent
 pub data Given (t : List ℕ) (k y x : ℕ) : Type 0 where
-  present : Stands t k → x ≡ field t k → Given t k y x
+  present : Has t k → x ≡ field t k → Given t k y x
   absent : Lacks t k → x ≡ y → Given t k y x
 
 -- "an absent L or d beside the other is the one in force": it asks for a change to L and d
 pub record AsksChange (t : List ℕ) (v : State) (L d : ℕ) : Type 0 where
-  pub some : 0 < bit (mapOf t) 1 + bit (mapOf t) 2
+  pub some : (Lacks t 1 → Lacks t 2 → ⊥)
   pub long : Given t 1 (v .voice .tuning .L) L
   pub delay : Given t 2 (v .voice .tuning .d) d
 
 -- "Bit 7 .. makes the change instant"
 pub data Kind (t : List ℕ) (L d : ℕ) (c : Call) : Type 0 where
   announced : Lacks t 7 → c ≡ announce L d → Kind t L d c
-  instantly : Stands t 7 → c ≡ instant L d → Kind t L d c
+  instantly : Has t 7 → c ≡ instant L d → Kind t L d c
 
 -- d is a delay that the order in force takes
 abbrev pub Delayed : State → ℕ → Type 0
@@ -113,7 +106,7 @@ pub data MakesChange (t : List ℕ) (v u : State) : Type 0 where
 -- "then plucks"; "no bit 4, no pluck; count, the L in force when the pluck starts; seed 0"
 pub data MakesPluck (t : List ℕ) (v u : State) : Type 0 where
   no-pluck : Lacks t 4 → u ≡ v → MakesPluck t v u
-  plucked : {n : ℕ} → Stands t 4 → Between 0 (field t 4) 255 → Given t 5 (v .voice .tuning .L) n
+  plucked : {n : ℕ} → Has t 4 → Between 0 (field t 4) 255 → Given t 5 (v .voice .tuning .L) n
       → Between 1 n 2048 → u ≡ call v (pluck (field t 4) n (field t 6)) → MakesPluck t v u
 
 -- ---- record k of the score s is reached, on this voice, with this many of the places left, at this byte

@@ -6,6 +6,7 @@ pub mod head;
 pub mod lists;
 pub mod notes;
 pub mod records;
+pub mod scores;
 pub mod table;
 pub mod term;
 pub mod voices;
@@ -13,8 +14,12 @@ pub mod voices;
 /// A module: its name, and what prints it.
 pub type Module = (&'static str, fn() -> String);
 
-pub const MODULES: &[Module] =
-    &[("Rows", voices::module), ("RecordRows", records::module), ("NoteRows", notes::module)];
+pub const MODULES: &[Module] = &[
+    ("Rows", voices::module),
+    ("RecordRows", records::module),
+    ("NoteRows", notes::module),
+    ("ScoreRows", scores::module),
+];
 
 /// The names of the modules, a line for each.
 pub fn names() -> String {

@@ -1,0 +1,475 @@
+-- Rows from another implementation of document 01: scores and what running them gives, as facts about the
+-- definitions. It printed this text; proofs/ScoreRows.antt proves them by computation. Assumes nothing.
+use mathlib.Core.Path.{_≡_}
+use mathlib.Core.List.{List, [], _∷_}
+use Prim.Native.Nat.{ℕ}
+use lib.IntN.{ℤ, pos, negsuc}
+use Rattle.rule.specs.State.{fresh, puts}
+use Rattle.score.specs.Run.{Outcome, opening, run}
+
+-- bytes, and the room of the output; number, place, and the samples written
+pub record Row : Type 0 where
+  pub bytes : List ℕ
+  pub room : ℕ
+  pub number : ℕ
+  pub place : ℕ
+  pub samples : List ℤ
+
+-- the definitions give this, row for row
+abbrev pub played : List ℕ → ℕ → Outcome → Row
+played s room o = record {
+  bytes = s;
+  room = room;
+  number = o .number;
+  place = o .place;
+  samples = puts (fresh (opening s)) (o .calls);
+}
+
+abbrev pub given : List Row → List Row
+given [] = []
+given (r ∷ rs) = played (r .bytes) (r .room) (run (r .bytes) (r .room)) ∷ given rs
+
+-- each number of the header, heard; no record at all
+abbrev pub headers : List Row
+headers =
+    record {
+      bytes = 1 ∷ 0 ∷ 3 ∷ 0 ∷ 160 ∷ 15 ∷ 96 ∷ 234 ∷ 48 ∷ 9 ∷ 0 ∷ 2 ∷ 0 ∷ 1 ∷ 9 ∷ 0 ∷ [];
+      room = 9;
+      number = 0;
+      place = 2;
+      samples =
+          pos 0 ∷ pos 0 ∷ pos 0 ∷ negsuc 1845 ∷ negsuc 157208 ∷ negsuc 128743 ∷ pos 1517
+          ∷ negsuc 1725 ∷ negsuc 74341 ∷ [];
+    }
+    ∷ record {
+      bytes = 2 ∷ 0 ∷ 3 ∷ 0 ∷ 100 ∷ 25 ∷ 96 ∷ 234 ∷ 48 ∷ 9 ∷ 0 ∷ 2 ∷ 0 ∷ 1 ∷ 9 ∷ 0 ∷ [];
+      room = 9;
+      number = 0;
+      place = 2;
+      samples =
+          pos 0 ∷ pos 0 ∷ pos 0 ∷ pos 4067 ∷ negsuc 47606 ∷ negsuc 182083 ∷ negsuc 73748
+          ∷ pos 19912 ∷ negsuc 10041 ∷ [];
+    }
+    ∷ record {
+      bytes = 1 ∷ 0 ∷ 2 ∷ 0 ∷ 160 ∷ 15 ∷ 96 ∷ 234 ∷ 48 ∷ 9 ∷ 0 ∷ 2 ∷ 0 ∷ 1 ∷ 9 ∷ 0 ∷ [];
+      room = 9;
+      number = 0;
+      place = 2;
+      samples =
+          pos 0 ∷ pos 0 ∷ negsuc 1845 ∷ negsuc 157208 ∷ negsuc 128753 ∷ negsuc 180 ∷ negsuc 74359
+          ∷ negsuc 130720 ∷ negsuc 57875 ∷ [];
+    }
+    ∷ record {
+      bytes = 1 ∷ 0 ∷ 3 ∷ 0 ∷ 136 ∷ 19 ∷ 96 ∷ 234 ∷ 48 ∷ 9 ∷ 0 ∷ 2 ∷ 0 ∷ 1 ∷ 9 ∷ 0 ∷ [];
+      room = 9;
+      number = 0;
+      place = 2;
+      samples =
+          pos 0 ∷ pos 0 ∷ pos 0 ∷ pos 15472 ∷ negsuc 141163 ∷ negsuc 144636 ∷ negsuc 15078
+          ∷ pos 11302 ∷ negsuc 43410 ∷ [];
+    }
+    ∷ record {
+      bytes = 1 ∷ 0 ∷ 3 ∷ 0 ∷ 160 ∷ 15 ∷ 40 ∷ 35 ∷ 48 ∷ 9 ∷ 0 ∷ 2 ∷ 0 ∷ 1 ∷ 9 ∷ 0 ∷ [];
+      room = 9;
+      number = 0;
+      place = 2;
+      samples =
+          pos 0 ∷ pos 0 ∷ pos 0 ∷ negsuc 1845 ∷ negsuc 157208 ∷ negsuc 128743 ∷ pos 1525
+          ∷ negsuc 273 ∷ negsuc 11149 ∷ [];
+    }
+    ∷ record {
+      bytes = 1 ∷ 2 ∷ 3 ∷ 0 ∷ 160 ∷ 15 ∷ 96 ∷ 234 ∷ [];
+      room = 3;
+      number = 0;
+      place = 0;
+      samples = [];
+    }
+    ∷ []
+
+-- 14 in the header, cut at each byte; 1, 2, 3 and 5 of Open
+abbrev pub unopened : List Row
+unopened =
+    record { bytes = []; room = 1; number = 14; place = 0; samples = [] }
+    ∷ record { bytes = 1 ∷ []; room = 1; number = 14; place = 0; samples = [] }
+    ∷ record { bytes = 1 ∷ 2 ∷ []; room = 1; number = 14; place = 0; samples = [] }
+    ∷ record { bytes = 1 ∷ 2 ∷ 3 ∷ []; room = 1; number = 14; place = 0; samples = [] }
+    ∷ record { bytes = 1 ∷ 2 ∷ 3 ∷ 0 ∷ []; room = 1; number = 14; place = 0; samples = [] }
+    ∷ record { bytes = 1 ∷ 2 ∷ 3 ∷ 0 ∷ 160 ∷ []; room = 1; number = 14; place = 0; samples = [] }
+    ∷ record {
+      bytes = 1 ∷ 2 ∷ 3 ∷ 0 ∷ 160 ∷ 15 ∷ [];
+      room = 1;
+      number = 14;
+      place = 0;
+      samples = [];
+    }
+    ∷ record {
+      bytes = 1 ∷ 2 ∷ 3 ∷ 0 ∷ 160 ∷ 15 ∷ 96 ∷ [];
+      room = 1;
+      number = 14;
+      place = 0;
+      samples = [];
+    }
+    ∷ record {
+      bytes = 0 ∷ 65 ∷ 0 ∷ 0 ∷ 0 ∷ 0 ∷ 0 ∷ 0 ∷ 48 ∷ 9 ∷ 0 ∷ 2 ∷ 0 ∷ 1 ∷ 1 ∷ 0 ∷ [];
+      room = 1;
+      number = 1;
+      place = 0;
+      samples = [];
+    }
+    ∷ record {
+      bytes = 3 ∷ 64 ∷ 1 ∷ 0 ∷ 0 ∷ 16 ∷ 0 ∷ 0 ∷ 48 ∷ 9 ∷ 0 ∷ 2 ∷ 0 ∷ 1 ∷ 1 ∷ 0 ∷ [];
+      room = 1;
+      number = 1;
+      place = 0;
+      samples = [];
+    }
+    ∷ record {
+      bytes = 1 ∷ 64 ∷ 0 ∷ 0 ∷ 0 ∷ 0 ∷ 0 ∷ 0 ∷ 48 ∷ 9 ∷ 0 ∷ 2 ∷ 0 ∷ 1 ∷ 1 ∷ 0 ∷ [];
+      room = 1;
+      number = 2;
+      place = 0;
+      samples = [];
+    }
+    ∷ record {
+      bytes = 1 ∷ 64 ∷ 1 ∷ 8 ∷ 0 ∷ 16 ∷ 0 ∷ 0 ∷ 48 ∷ 9 ∷ 0 ∷ 2 ∷ 0 ∷ 1 ∷ 1 ∷ 0 ∷ [];
+      room = 1;
+      number = 2;
+      place = 0;
+      samples = [];
+    }
+    ∷ record {
+      bytes = 1 ∷ 65 ∷ 1 ∷ 0 ∷ 0 ∷ 8 ∷ 0 ∷ 0 ∷ 48 ∷ 9 ∷ 0 ∷ 2 ∷ 0 ∷ 1 ∷ 1 ∷ 0 ∷ [];
+      room = 1;
+      number = 3;
+      place = 0;
+      samples = [];
+    }
+    ∷ record {
+      bytes = 1 ∷ 0 ∷ 1 ∷ 0 ∷ 1 ∷ 24 ∷ 0 ∷ 0 ∷ 48 ∷ 9 ∷ 0 ∷ 2 ∷ 0 ∷ 1 ∷ 1 ∷ 0 ∷ [];
+      room = 1;
+      number = 3;
+      place = 0;
+      samples = [];
+    }
+    ∷ record {
+      bytes = 2 ∷ 0 ∷ 1 ∷ 0 ∷ 0 ∷ 24 ∷ 0 ∷ 0 ∷ 48 ∷ 9 ∷ 0 ∷ 2 ∷ 0 ∷ 1 ∷ 1 ∷ 0 ∷ [];
+      room = 1;
+      number = 3;
+      place = 0;
+      samples = [];
+    }
+    ∷ record {
+      bytes = 2 ∷ 0 ∷ 1 ∷ 0 ∷ 1 ∷ 40 ∷ 0 ∷ 0 ∷ 48 ∷ 9 ∷ 0 ∷ 2 ∷ 0 ∷ 1 ∷ 1 ∷ 0 ∷ [];
+      room = 1;
+      number = 3;
+      place = 0;
+      samples = [];
+    }
+    ∷ record {
+      bytes = 2 ∷ 65 ∷ 0 ∷ 8 ∷ 0 ∷ 40 ∷ 255 ∷ 255 ∷ 48 ∷ 9 ∷ 0 ∷ 2 ∷ 0 ∷ 1 ∷ 1 ∷ 0 ∷ [];
+      room = 1;
+      number = 5;
+      place = 0;
+      samples = [];
+    }
+    ∷ []
+
+-- each field absent and present
+abbrev pub fields : List Row
+fields =
+    record {
+      bytes =
+          1 ∷ 2 ∷ 3 ∷ 0 ∷ 160 ∷ 15 ∷ 96 ∷ 234 ∷ 48 ∷ 9 ∷ 0 ∷ 2 ∷ 0 ∷ 1 ∷ 4 ∷ 0 ∷ 0 ∷ 1 ∷ 5 ∷ 0 ∷ [];
+      room = 9;
+      number = 0;
+      place = 4;
+      samples =
+          pos 0 ∷ pos 0 ∷ pos 0 ∷ negsuc 1845 ∷ negsuc 157208 ∷ negsuc 128743 ∷ pos 1517
+          ∷ negsuc 1725 ∷ negsuc 74341 ∷ [];
+    }
+    ∷ record {
+      bytes =
+          1 ∷ 2 ∷ 3 ∷ 0 ∷ 160 ∷ 15 ∷ 96 ∷ 234 ∷ 48 ∷ 9 ∷ 0 ∷ 2 ∷ 0 ∷ 1 ∷ 4 ∷ 0 ∷ 2 ∷ 2 ∷ 0 ∷ 1 ∷ 7
+          ∷ 0 ∷ [];
+      room = 11;
+      number = 0;
+      place = 4;
+      samples =
+          pos 0 ∷ pos 0 ∷ pos 0 ∷ negsuc 1845 ∷ negsuc 157208 ∷ negsuc 128743 ∷ negsuc 1707
+          ∷ negsuc 74341 ∷ negsuc 130725 ∷ negsuc 58578 ∷ negsuc 35230 ∷ [];
+    }
+    ∷ record {
+      bytes =
+          1 ∷ 2 ∷ 3 ∷ 0 ∷ 160 ∷ 15 ∷ 96 ∷ 234 ∷ 48 ∷ 9 ∷ 0 ∷ 2 ∷ 0 ∷ 1 ∷ 4 ∷ 0 ∷ 4 ∷ 136 ∷ 19 ∷ 1
+          ∷ 7 ∷ 0 ∷ [];
+      room = 11;
+      number = 0;
+      place = 4;
+      samples =
+          pos 0 ∷ pos 0 ∷ pos 0 ∷ negsuc 1845 ∷ negsuc 157208 ∷ negsuc 128743 ∷ negsuc 12767
+          ∷ pos 5122 ∷ negsuc 59291 ∷ negsuc 130353 ∷ negsuc 77385 ∷ [];
+    }
+    ∷ record {
+      bytes =
+          1 ∷ 2 ∷ 3 ∷ 0 ∷ 160 ∷ 15 ∷ 96 ∷ 234 ∷ 48 ∷ 9 ∷ 0 ∷ 2 ∷ 0 ∷ 1 ∷ 4 ∷ 0 ∷ 6 ∷ 2 ∷ 0 ∷ 136
+          ∷ 19 ∷ 1 ∷ 7 ∷ 0 ∷ [];
+      room = 11;
+      number = 0;
+      place = 4;
+      samples =
+          pos 0 ∷ pos 0 ∷ pos 0 ∷ negsuc 1845 ∷ negsuc 157208 ∷ negsuc 128743 ∷ pos 6399
+          ∷ negsuc 59164 ∷ negsuc 131212 ∷ negsuc 66644 ∷ negsuc 22115 ∷ [];
+    }
+    ∷ record {
+      bytes =
+          1 ∷ 2 ∷ 3 ∷ 0 ∷ 160 ∷ 15 ∷ 96 ∷ 234 ∷ 48 ∷ 9 ∷ 0 ∷ 2 ∷ 0 ∷ 1 ∷ 4 ∷ 0 ∷ 130 ∷ 2 ∷ 0 ∷ 1
+          ∷ 5 ∷ 0 ∷ [];
+      room = 9;
+      number = 0;
+      place = 4;
+      samples =
+          pos 0 ∷ pos 0 ∷ pos 0 ∷ negsuc 1845 ∷ negsuc 128743 ∷ pos 1517 ∷ negsuc 1571
+          ∷ negsuc 60450 ∷ negsuc 57522 ∷ [];
+    }
+    ∷ record {
+      bytes =
+          1 ∷ 2 ∷ 3 ∷ 0 ∷ 160 ∷ 15 ∷ 96 ∷ 234 ∷ 48 ∷ 9 ∷ 0 ∷ 2 ∷ 0 ∷ 1 ∷ 4 ∷ 0 ∷ 132 ∷ 136 ∷ 19 ∷ 1
+          ∷ 5 ∷ 0 ∷ [];
+      room = 9;
+      number = 0;
+      place = 4;
+      samples =
+          pos 0 ∷ pos 0 ∷ pos 0 ∷ negsuc 1845 ∷ negsuc 141163 ∷ negsuc 144636 ∷ negsuc 14290
+          ∷ pos 4241 ∷ negsuc 52040 ∷ [];
+    }
+    ∷ record {
+      bytes =
+          1 ∷ 2 ∷ 3 ∷ 0 ∷ 160 ∷ 15 ∷ 96 ∷ 234 ∷ 48 ∷ 9 ∷ 0 ∷ 2 ∷ 0 ∷ 1 ∷ 4 ∷ 0 ∷ 134 ∷ 2 ∷ 0 ∷ 136
+          ∷ 19 ∷ 1 ∷ 5 ∷ 0 ∷ [];
+      room = 9;
+      number = 0;
+      place = 4;
+      samples =
+          pos 0 ∷ pos 0 ∷ pos 0 ∷ negsuc 1845 ∷ negsuc 144636 ∷ negsuc 14290 ∷ pos 4399
+          ∷ negsuc 59386 ∷ negsuc 78202 ∷ [];
+    }
+    ∷ record {
+      bytes =
+          1 ∷ 2 ∷ 3 ∷ 0 ∷ 160 ∷ 15 ∷ 96 ∷ 234 ∷ 48 ∷ 9 ∷ 0 ∷ 2 ∷ 0 ∷ 1 ∷ 4 ∷ 0 ∷ 8 ∷ 32 ∷ 78 ∷ 1
+          ∷ 5 ∷ 0 ∷ [];
+      room = 9;
+      number = 0;
+      place = 4;
+      samples =
+          pos 0 ∷ pos 0 ∷ pos 0 ∷ negsuc 1845 ∷ negsuc 157208 ∷ negsuc 128743 ∷ pos 1517
+          ∷ negsuc 1150 ∷ negsuc 24773 ∷ [];
+    }
+    ∷ record {
+      bytes =
+          1 ∷ 2 ∷ 3 ∷ 0 ∷ 160 ∷ 15 ∷ 96 ∷ 234 ∷ 48 ∷ 9 ∷ 0 ∷ 2 ∷ 0 ∷ 1 ∷ 4 ∷ 0 ∷ 16 ∷ 7 ∷ 0 ∷ 1 ∷ 6
+          ∷ 0 ∷ [];
+      room = 10;
+      number = 0;
+      place = 4;
+      samples =
+          pos 0 ∷ pos 0 ∷ pos 0 ∷ negsuc 1845 ∷ negsuc 157208 ∷ negsuc 128743 ∷ pos 1517
+          ∷ negsuc 3161 ∷ negsuc 196614 ∷ negsuc 229103 ∷ [];
+    }
+    ∷ record {
+      bytes =
+          1 ∷ 2 ∷ 3 ∷ 0 ∷ 160 ∷ 15 ∷ 96 ∷ 234 ∷ 48 ∷ 9 ∷ 0 ∷ 2 ∷ 0 ∷ 1 ∷ 4 ∷ 0 ∷ 48 ∷ 7 ∷ 0 ∷ 1 ∷ 0
+          ∷ 1 ∷ 6 ∷ 0 ∷ [];
+      room = 10;
+      number = 0;
+      place = 4;
+      samples =
+          pos 0 ∷ pos 0 ∷ pos 0 ∷ negsuc 1845 ∷ negsuc 157208 ∷ negsuc 128743 ∷ pos 1517
+          ∷ negsuc 3161 ∷ negsuc 195410 ∷ negsuc 129271 ∷ [];
+    }
+    ∷ record {
+      bytes =
+          1 ∷ 2 ∷ 3 ∷ 0 ∷ 160 ∷ 15 ∷ 96 ∷ 234 ∷ 48 ∷ 9 ∷ 0 ∷ 2 ∷ 0 ∷ 1 ∷ 4 ∷ 0 ∷ 112 ∷ 7 ∷ 0 ∷ 2
+          ∷ 0 ∷ 9 ∷ 0 ∷ 1 ∷ 6 ∷ 0 ∷ [];
+      room = 10;
+      number = 0;
+      place = 4;
+      samples =
+          pos 0 ∷ pos 0 ∷ pos 0 ∷ negsuc 1845 ∷ negsuc 157208 ∷ negsuc 128743 ∷ pos 1517
+          ∷ negsuc 3142 ∷ negsuc 196010 ∷ negsuc 315107 ∷ [];
+    }
+    ∷ record {
+      bytes =
+          1 ∷ 2 ∷ 3 ∷ 0 ∷ 160 ∷ 15 ∷ 96 ∷ 234 ∷ 48 ∷ 9 ∷ 0 ∷ 2 ∷ 0 ∷ 1 ∷ 4 ∷ 0 ∷ 82 ∷ 5 ∷ 0 ∷ 7 ∷ 0
+          ∷ 255 ∷ 255 ∷ 1 ∷ 7 ∷ 0 ∷ [];
+      room = 11;
+      number = 0;
+      place = 4;
+      samples =
+          pos 0 ∷ pos 0 ∷ pos 0 ∷ negsuc 1845 ∷ negsuc 157208 ∷ negsuc 128743 ∷ negsuc 157208
+          ∷ negsuc 128743 ∷ pos 1517 ∷ negsuc 995 ∷ negsuc 12464 ∷ [];
+    }
+    ∷ record {
+      bytes =
+          1 ∷ 2 ∷ 3 ∷ 0 ∷ 160 ∷ 15 ∷ 96 ∷ 234 ∷ 48 ∷ 9 ∷ 0 ∷ 2 ∷ 0 ∷ 1 ∷ 4 ∷ 0 ∷ 146 ∷ 1 ∷ 0 ∷ 7
+          ∷ 0 ∷ 1 ∷ 5 ∷ 0 ∷ [];
+      room = 9;
+      number = 0;
+      place = 4;
+      samples =
+          pos 0 ∷ pos 0 ∷ pos 0 ∷ negsuc 1845 ∷ pos 1538 ∷ negsuc 2299 ∷ negsuc 121203 ∷ pos 418
+          ∷ negsuc 57196 ∷ [];
+    }
+    ∷ record {
+      bytes = 1 ∷ 2 ∷ 3 ∷ 0 ∷ 160 ∷ 15 ∷ 96 ∷ 234 ∷ 48 ∷ 9 ∷ 0 ∷ 4 ∷ 0 ∷ 17 ∷ 1 ∷ 0 ∷ 0 ∷ 0 ∷ [];
+      room = 9;
+      number = 0;
+      place = 2;
+      samples = pos 0 ∷ [];
+    }
+    ∷ record {
+      bytes =
+          1 ∷ 2 ∷ 3 ∷ 0 ∷ 160 ∷ 15 ∷ 96 ∷ 234 ∷ 48 ∷ 9 ∷ 0 ∷ 2 ∷ 0 ∷ 1 ∷ 4 ∷ 0 ∷ 123 ∷ 2 ∷ 0 ∷ 4
+          ∷ 0 ∷ 1 ∷ 0 ∷ 255 ∷ 0 ∷ 1 ∷ 0 ∷ 3 ∷ 0 ∷ 1 ∷ 3 ∷ 0 ∷ [];
+      room = 7;
+      number = 16;
+      place = 3;
+      samples = pos 0 ∷ pos 0 ∷ pos 0 ∷ negsuc 1845 ∷ negsuc 157208 ∷ negsuc 128743 ∷ [];
+    }
+    ∷ []
+
+-- each refusal of a record, after samples that stand
+abbrev pub refused : List Row
+refused =
+    record {
+      bytes =
+          1 ∷ 2 ∷ 3 ∷ 0 ∷ 160 ∷ 15 ∷ 96 ∷ 234 ∷ 48 ∷ 9 ∷ 0 ∷ 2 ∷ 0 ∷ 1 ∷ 4 ∷ 0 ∷ 65 ∷ 1 ∷ 0 ∷ 1
+          ∷ [];
+      room = 4;
+      number = 14;
+      place = 2;
+      samples = pos 0 ∷ pos 0 ∷ pos 0 ∷ negsuc 1845 ∷ [];
+    }
+    ∷ record {
+      bytes =
+          1 ∷ 2 ∷ 3 ∷ 0 ∷ 160 ∷ 15 ∷ 96 ∷ 234 ∷ 48 ∷ 9 ∷ 0 ∷ 2 ∷ 0 ∷ 1 ∷ 4 ∷ 0 ∷ 33 ∷ 9 ∷ 0 ∷ 1 ∷ 0
+          ∷ 1 ∷ 3 ∷ 0 ∷ [];
+      room = 7;
+      number = 15;
+      place = 2;
+      samples = pos 0 ∷ pos 0 ∷ pos 0 ∷ negsuc 1845 ∷ [];
+    }
+    ∷ record {
+      bytes =
+          1 ∷ 2 ∷ 3 ∷ 0 ∷ 160 ∷ 15 ∷ 96 ∷ 234 ∷ 48 ∷ 9 ∷ 0 ∷ 2 ∷ 0 ∷ 1 ∷ 4 ∷ 0 ∷ 65 ∷ 1 ∷ 0 ∷ 1 ∷ 0
+          ∷ 1 ∷ 3 ∷ 0 ∷ [];
+      room = 7;
+      number = 15;
+      place = 2;
+      samples = pos 0 ∷ pos 0 ∷ pos 0 ∷ negsuc 1845 ∷ [];
+    }
+    ∷ record {
+      bytes =
+          1 ∷ 2 ∷ 3 ∷ 0 ∷ 160 ∷ 15 ∷ 96 ∷ 234 ∷ 48 ∷ 9 ∷ 0 ∷ 2 ∷ 0 ∷ 1 ∷ 4 ∷ 0 ∷ 129 ∷ 1 ∷ 0 ∷ 1
+          ∷ 3 ∷ 0 ∷ [];
+      room = 7;
+      number = 15;
+      place = 2;
+      samples = pos 0 ∷ pos 0 ∷ pos 0 ∷ negsuc 1845 ∷ [];
+    }
+    ∷ record {
+      bytes =
+          1 ∷ 2 ∷ 3 ∷ 0 ∷ 160 ∷ 15 ∷ 96 ∷ 234 ∷ 48 ∷ 9 ∷ 0 ∷ 2 ∷ 0 ∷ 1 ∷ 4 ∷ 0 ∷ 3 ∷ 2 ∷ 0 ∷ 0 ∷ 0
+          ∷ [];
+      room = 5;
+      number = 16;
+      place = 2;
+      samples = pos 0 ∷ pos 0 ∷ pos 0 ∷ negsuc 1845 ∷ [];
+    }
+    ∷ record {
+      bytes =
+          1 ∷ 2 ∷ 3 ∷ 0 ∷ 160 ∷ 15 ∷ 96 ∷ 234 ∷ 48 ∷ 9 ∷ 0 ∷ 2 ∷ 0 ∷ 1 ∷ 4 ∷ 0 ∷ 3 ∷ 2 ∷ 0 ∷ 0 ∷ 0
+          ∷ [];
+      room = 6;
+      number = 2;
+      place = 2;
+      samples = pos 0 ∷ pos 0 ∷ pos 0 ∷ negsuc 1845 ∷ negsuc 157208 ∷ negsuc 128743 ∷ [];
+    }
+    ∷ record {
+      bytes =
+          1 ∷ 2 ∷ 3 ∷ 0 ∷ 160 ∷ 15 ∷ 96 ∷ 234 ∷ 48 ∷ 9 ∷ 0 ∷ 2 ∷ 0 ∷ 1 ∷ 4 ∷ 0 ∷ 7 ∷ 1 ∷ 0 ∷ 1 ∷ 8
+          ∷ 0 ∷ 0 ∷ 1 ∷ 3 ∷ 0 ∷ [];
+      room = 7;
+      number = 2;
+      place = 2;
+      samples = pos 0 ∷ pos 0 ∷ pos 0 ∷ negsuc 1845 ∷ negsuc 157208 ∷ [];
+    }
+    ∷ record {
+      bytes =
+          1 ∷ 2 ∷ 3 ∷ 0 ∷ 160 ∷ 15 ∷ 96 ∷ 234 ∷ 48 ∷ 9 ∷ 0 ∷ 2 ∷ 0 ∷ 1 ∷ 4 ∷ 0 ∷ 21 ∷ 1 ∷ 0 ∷ 1
+          ∷ 24 ∷ 0 ∷ 1 ∷ 1 ∷ 3 ∷ 0 ∷ [];
+      room = 7;
+      number = 3;
+      place = 2;
+      samples = pos 0 ∷ pos 0 ∷ pos 0 ∷ negsuc 1845 ∷ negsuc 157208 ∷ [];
+    }
+    ∷ record {
+      bytes =
+          1 ∷ 2 ∷ 3 ∷ 0 ∷ 160 ∷ 15 ∷ 96 ∷ 234 ∷ 48 ∷ 9 ∷ 0 ∷ 2 ∷ 0 ∷ 1 ∷ 4 ∷ 0 ∷ 6 ∷ 2 ∷ 0 ∷ 0 ∷ 16
+          ∷ 3 ∷ 1 ∷ 0 ∷ 2 ∷ 0 ∷ [];
+      room = 9;
+      number = 6;
+      place = 3;
+      samples = pos 0 ∷ pos 0 ∷ pos 0 ∷ negsuc 1845 ∷ negsuc 157208 ∷ [];
+    }
+    ∷ record {
+      bytes =
+          1 ∷ 2 ∷ 3 ∷ 0 ∷ 160 ∷ 15 ∷ 96 ∷ 234 ∷ 48 ∷ 9 ∷ 0 ∷ 2 ∷ 0 ∷ 1 ∷ 4 ∷ 0 ∷ 6 ∷ 2 ∷ 0 ∷ 0 ∷ 16
+          ∷ 133 ∷ 1 ∷ 0 ∷ 0 ∷ 16 ∷ [];
+      room = 9;
+      number = 6;
+      place = 3;
+      samples = pos 0 ∷ pos 0 ∷ pos 0 ∷ negsuc 1845 ∷ negsuc 157208 ∷ [];
+    }
+    ∷ record {
+      bytes =
+          1 ∷ 2 ∷ 3 ∷ 0 ∷ 160 ∷ 15 ∷ 96 ∷ 234 ∷ 48 ∷ 9 ∷ 0 ∷ 2 ∷ 0 ∷ 1 ∷ 4 ∷ 0 ∷ 6 ∷ 2 ∷ 0 ∷ 0 ∷ 16
+          ∷ 3 ∷ 2 ∷ 0 ∷ 3 ∷ 0 ∷ [];
+      room = 9;
+      number = 0;
+      place = 4;
+      samples = pos 0 ∷ pos 0 ∷ pos 0 ∷ negsuc 1845 ∷ negsuc 157208 ∷ negsuc 128743 ∷ [];
+    }
+    ∷ record {
+      bytes =
+          1 ∷ 2 ∷ 3 ∷ 0 ∷ 160 ∷ 15 ∷ 96 ∷ 234 ∷ 48 ∷ 9 ∷ 0 ∷ 2 ∷ 0 ∷ 1 ∷ 4 ∷ 0 ∷ 49 ∷ 1 ∷ 0 ∷ 0 ∷ 1
+          ∷ 0 ∷ 0 ∷ 1 ∷ 3 ∷ 0 ∷ [];
+      room = 7;
+      number = 7;
+      place = 2;
+      samples = pos 0 ∷ pos 0 ∷ pos 0 ∷ negsuc 1845 ∷ negsuc 157208 ∷ [];
+    }
+    ∷ record {
+      bytes =
+          1 ∷ 2 ∷ 3 ∷ 0 ∷ 160 ∷ 15 ∷ 96 ∷ 234 ∷ 48 ∷ 9 ∷ 0 ∷ 2 ∷ 0 ∷ 1 ∷ 4 ∷ 0 ∷ 49 ∷ 1 ∷ 0 ∷ 255
+          ∷ 0 ∷ 0 ∷ 0 ∷ 1 ∷ 3 ∷ 0 ∷ [];
+      room = 7;
+      number = 8;
+      place = 2;
+      samples = pos 0 ∷ pos 0 ∷ pos 0 ∷ negsuc 1845 ∷ negsuc 157208 ∷ [];
+    }
+    ∷ record {
+      bytes =
+          1 ∷ 2 ∷ 3 ∷ 0 ∷ 160 ∷ 15 ∷ 96 ∷ 234 ∷ 48 ∷ 9 ∷ 0 ∷ 2 ∷ 0 ∷ 1 ∷ 4 ∷ 0 ∷ 49 ∷ 1 ∷ 0 ∷ 255
+          ∷ 0 ∷ 1 ∷ 8 ∷ 1 ∷ 3 ∷ 0 ∷ [];
+      room = 7;
+      number = 8;
+      place = 2;
+      samples = pos 0 ∷ pos 0 ∷ pos 0 ∷ negsuc 1845 ∷ negsuc 157208 ∷ [];
+    }
+    ∷ []
+
+pub record ScoreRows : Type 0 where
+  pub headers : given headers ≡ headers
+  pub unopened : given unopened ≡ unopened
+  pub fields : given fields ≡ fields
+  pub refused : given refused ≡ refused
