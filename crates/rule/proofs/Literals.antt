@@ -19,9 +19,11 @@ falls k K h = go (leb k 23) (leb K 23) refl refl
   where
     go : (a b : Bool) → leb k 23 ≡ a → leb K 23 ≡ b
         → cond a (3 * 2 ^ (23 - k)) 2 ≤ cond b (3 * 2 ^ (23 - K)) 2
-    go true true e i = omega (arith, pow-le-pow-right {n = 2} (omega arith) {i = 23 - k} {j = 23 - K} (omega arith))
+    go true true e i =
+        omega (arith, pow-le-pow-right {n = 2} (omega arith) {i = 23 - k} {j = 23 - K} (omega arith))
     go true false e i = absurd (omega (arith, leb-true k 23 e, leb-false K 23 i))
-    go false true e i = omega (arith, pow-le-pow-right {n = 2} (omega arith) {i = 0} {j = 23 - K} (omega arith))
+    go false true e i =
+        omega (arith, pow-le-pow-right {n = 2} (omega arith) {i = 0} {j = 23 - K} (omega arith))
     go false false e i = omega arith
 
 module _ (o : Opening) (cs : List Call) where
@@ -30,7 +32,8 @@ module _ (o : Opening) (cs : List Call) where
   from-there N Na j K positive h pre post c m k short order advance late =
       let at = (k .a + (m - k .e)) / k .t .N in
       let reached : K ≤ at
-      = rw (order, advance) (le-div-iff-mul-le {k = N} {x = K} {y = Na + (m - k .e)} positive .1 (omega arith)) in
+      = rw (order, advance)
+      (le-div-iff-mul-le {k = N} {x = K} {y = Na + (m - k .e)} positive .1 (omega arith)) in
       le-trans
       (click o cs pre post c (k .t) (k .a) (k .e) m (k .split) (k .change) (k .until) (k .since) short .near)
       (falls at K reached)

@@ -14,9 +14,11 @@ use Rattle.score.specs.declared.Played.{Played}
 use Rattle.score.specs.Played.{Runs}
 use Rattle.score.specs.Reached.{size, waited, Reached, first, later}
 use Rattle.score.specs.Ends.{HeaderRefused, RecordRefused, LossRefused, ChangeRefused, PluckRefused}
-use Rattle.score.specs.Ends.{cut, order, long, delay, loss, advance, ill-formed, full, loss-outside, waits}
+use Rattle.score.specs.Ends.{cut, order, long, delay, loss, advance, ill-formed, full, loss-outside}
+use Rattle.score.specs.Ends.{waits}
 use Rattle.score.specs.Ends.{amplitude, count}
-use Rattle.score.specs.Ends.{Ends, unopened, record-refused, lossless, unchanged, unplucked, success, Answered}
+use Rattle.score.specs.Ends.{Ends, unopened, record-refused, lossless, unchanged, unplucked, success}
+use Rattle.score.specs.Ends.{Answered}
 use Rattle.score.proofs.Decided.{at-most, opens-or, readable-or, loss-or, change-or, pluck-or}
 use Rattle.score.proofs.Standing.{standing}
 use Rattle.score.proofs.Ending.{Returns, ending}
@@ -48,14 +50,16 @@ module _ (s : List ℕ) (out : List ℤ) where
   ends-so (suc fuel) {k} {left = left} {at} g h =
       ⊎-elim
       (λ l. ⊎-elim
-      (λ n. ends-so fuel {k = k + 1} {v = n .0} {left = left - field (drop at s) 0} {at = at + size (drop at s)}
+      (λ n.
+      ends-so fuel {k = k + 1} {v = n .0} {left = left - field (drop at s) 0} {at = at + size (drop at s)}
       (n .1) (omega arith))
       (λ e. e) (turn g (omega arith)))
       (λ f. (0, k, _, success g (omega (arith, standing s out g .within)))) (at-most (suc at) (length s))
 
   pub ended : Ended
   ended =
-      ⊎-elim (λ o. ends-so (length s) (first o) (omega arith)) (λ e. (e .0, 0, 0, unopened (e .1))) (opens-or s)
+      ⊎-elim (λ o. ends-so (length s) (first o) (omega arith)) (λ e. (e .0, 0, 0, unopened (e .1)))
+      (opens-or s)
 
 -- ---- the numbers of each part
 module _ (s : List ℕ) (octets : (i : ℕ) → getD s i 0 < 256) where

@@ -19,15 +19,18 @@ use Rattle.record.specs.Returns.{IllFormed}
 use Rattle.record.proofs.Returns.{ill, found, stands}
 use Rattle.score.specs.declared.Played.{Played}
 use Rattle.score.specs.Played.{Runs}
-use Rattle.score.specs.Reached.{header, Opens, OrderIn, LengthIn, DelayIn, LossIn, AdvanceIn, Has, Lacks, size}
+use Rattle.score.specs.Reached.{header, Opens, OrderIn, LengthIn, DelayIn, LossIn, AdvanceIn, Has}
+use Rattle.score.specs.Reached.{Lacks, size}
 use Rattle.score.specs.Reached.{Readable, waited}
 use Rattle.score.specs.Reached.{SetsLoss, as-it-was, set, Given, present, absent, AsksChange, Delayed}
 use Rattle.score.specs.Reached.{MakesChange, no-change, changed, MakesPluck, no-pluck, plucked}
 use Rattle.score.specs.Reached.{Reached, first, later}
 use Rattle.score.specs.Ends.{HeaderRefused, RecordRefused, LossRefused, ChangeRefused, PluckRefused}
-use Rattle.score.specs.Ends.{cut, order, long, delay, loss, advance, ill-formed, full, loss-outside, waits}
+use Rattle.score.specs.Ends.{cut, order, long, delay, loss, advance, ill-formed, full, loss-outside}
+use Rattle.score.specs.Ends.{waits}
 use Rattle.score.specs.Ends.{amplitude, count}
-use Rattle.score.specs.Ends.{Ends, unopened, record-refused, lossless, unchanged, unplucked, success, Answered}
+use Rattle.score.specs.Ends.{Ends, unopened, record-refused, lossless, unchanged, unplucked, success}
+use Rattle.score.specs.Ends.{Answered}
 use Rattle.score.proofs.Parts.{kind}
 use Rattle.score.proofs.Standing.{Standing, standing}
 use Rattle.score.proofs.Ending.{Returns, ending}
@@ -103,7 +106,8 @@ module _ (t : List ℕ) where
       ⊎-elim (λ e. there (λ f g. f e))
       (λ f. ⊎-elim (λ e. there (λ g h. h e)) (λ g. inl (v, no-change f g refl)) (has 2)) (has 1)
     where
-      there : (Lacks t 1 → Lacks t 2 → ⊥) → ((u : State) × MakesChange t v u) ⊎ ((n : ℕ) × ChangeRefused t v n)
+      there : (Lacks t 1 → Lacks t 2 → ⊥)
+          → ((u : State) × MakesChange t v u) ⊎ ((n : ℕ) × ChangeRefused t v n)
       there h =
           let L = given 1 (v .voice .tuning .L) in
           let d = given 2 (v .voice .tuning .d) in

@@ -16,20 +16,24 @@ use Rattle.rule.proofs.Refusals.{refuses}
 use Rattle.record.specs.Record.{mapOf, bytes, field, fields, whole, formed}
 use Rattle.record.proofs.Reading.{good-map, taken-fields}
 use Rattle.record.proofs.Returns.{well, ill, bytes-are}
-use Rattle.follow.specs.Follow.{value, waitCalls, lossCalls, changeCalls, pluckCalls, then, actCalls, recordCalls}
+use Rattle.follow.specs.Follow.{value, waitCalls, lossCalls, changeCalls, pluckCalls, then, actCalls}
+use Rattle.follow.specs.Follow.{recordCalls}
 use Rattle.follow.proofs.Waits.{wait-taken}
 use Rattle.score.specs.Run.{opening, fits, playLimits, headerLimits, allRecords}
 use Rattle.score.specs.Played.{Plays, Runs}
 use Rattle.score.specs.Reached.{Opens, size, Readable, waited, SetsLoss, MakesChange}
 use Rattle.score.specs.Ends.{HeaderRefused, cut, order, long, delay, loss, advance}
-use Rattle.score.specs.Ends.{RecordRefused, ill-formed, full, LossRefused, ChangeRefused, PluckRefused}
+use Rattle.score.specs.Ends.{RecordRefused, ill-formed, full, LossRefused, ChangeRefused}
+use Rattle.score.specs.Ends.{PluckRefused}
 use Rattle.score.specs.Ends.{Ends, unopened, record-refused, lossless, unchanged, unplucked, success}
 use Rattle.score.proofs.Playing.{play-returned, all-played, refused}
 use Rattle.score.proofs.Header.{header-cut, header-whole, run-refused, run-played}
 use Rattle.score.proofs.Turns.{stopped}
-use Rattle.score.proofs.Parts.{Yields, r, first-then, first-ends, sets-loss, loss-refused, makes-change}
+use Rattle.score.proofs.Parts.{Yields, r, first-then, first-ends, sets-loss, loss-refused}
+use Rattle.score.proofs.Parts.{makes-change}
 use Rattle.score.proofs.Parts.{change-refused, pluck-refused}
-use Rattle.score.proofs.Standing.{Standing, standing, good, wait-is, kept-whole, kept-formed, room, some-left, passes}
+use Rattle.score.proofs.Standing.{Standing, standing, good, wait-is, kept-whole, kept-formed, room}
+use Rattle.score.proofs.Standing.{some-left, passes}
 
 -- the run of s over out returns n, k and w
 pub record Returns (s : List ℕ) (out : List ℤ) (n k w : ℕ) : Type 0 where
@@ -44,7 +48,8 @@ opens-voice s o =
 
 header-number : (s : List ℕ) {n : ℕ} → HeaderRefused s n → (n ≡ refusal (headerLimits s)) × (n ≡ 0 → ⊥)
 header-number s (cut h) = (header-cut s h, λ z. omega arith)
-header-number s (order h f) = (header-whole s h (sym (refuses .opens (opening s) .order .1 f)), λ z. omega arith)
+header-number s (order h f) =
+    (header-whole s h (sym (refuses .opens (opening s) .order .1 f)), λ z. omega arith)
 header-number s (long h a f) =
     (header-whole s h (sym (refuses .opens (opening s) .length .1 (a, f))), λ z. omega arith)
 header-number s (delay h a b f) =
@@ -130,7 +135,8 @@ module _ {s : List ℕ} {out : List ℤ} {k : ℕ} {v : State} {left at : ℕ} (
         (first-then (waitCalls (r t)) (actCalls (r t))
         (record { number = wait-taken (r t) v; state = refl }) y)
 
-    pub by-loss : {n : ℕ} → LossRefused (drop at s) n → Returns s out n k (length out - (left - field (drop at s) 0))
+    pub by-loss : {n : ℕ} → LossRefused (drop at s) n
+        → Returns s out n k (length out - (left - field (drop at s) 0))
     unfolding actCalls
     by-loss e =
         let y = loss-refused t (waited t v) e in
@@ -142,7 +148,8 @@ module _ {s : List ℕ} {out : List ℤ} {k : ℕ} {v : State} {left at : ℕ} (
       lossy : {n : ℕ} {u : State} → Yields a (then (changeCalls (r t)) (pluckCalls (r t)) a) n u
           → Yields v (recordCalls (fields (drop at s)) v) n u
       unfolding actCalls
-      lossy y = acts (first-then (lossCalls (r t)) (then (changeCalls (r t)) (pluckCalls (r t))) (sets-loss t l) y)
+      lossy y =
+          acts (first-then (lossCalls (r t)) (then (changeCalls (r t)) (pluckCalls (r t))) (sets-loss t l) y)
 
       pub by-change : {n : ℕ} → ChangeRefused (drop at s) a n
           → Returns s out n k (length out - (left - field (drop at s) 0))
@@ -154,7 +161,8 @@ module _ {s : List ℕ} {out : List ℤ} {k : ℕ} {v : State} {left at : ℕ} (
           → Returns s out n k (length out - (left - field (drop at s) 0))
       by-pluck c e =
           let y = pluck-refused t e in
-          after-wait (lossy (first-then (changeCalls (r t)) (pluckCalls (r t)) (makes-change t c) (y .1))) (y .2)
+          after-wait (lossy (first-then (changeCalls (r t)) (pluckCalls (r t)) (makes-change t c) (y .1)))
+          (y .2)
 
 -- ---- every end
 pub ending : (s : List ℕ) (out : List ℤ) {n k w : ℕ} → Ends s (length out) n k w → Returns s out n k w

@@ -17,7 +17,8 @@ use Rattle.follow.specs.Follow.{lossCalls, lengthTo, delayTo, change, changeCal
 use Rattle.follow.specs.Follow.{pluckCalls, result, then}
 use Rattle.follow.proofs.Sequence.{from-append, result-past, result-one, then-past, then-stops}
 use Rattle.score.specs.Reached.{Has, Lacks, SetsLoss, as-it-was, set, Given, present, absent}
-use Rattle.score.specs.Reached.{AsksChange, Kind, announced, instantly, MakesChange, no-change, changed}
+use Rattle.score.specs.Reached.{AsksChange, Kind, announced, instantly, MakesChange, no-change}
+use Rattle.score.specs.Reached.{changed}
 use Rattle.score.specs.Reached.{MakesPluck, no-pluck, plucked}
 use Rattle.score.specs.Ends.{LossRefused, loss-outside, ChangeRefused, long, delay, waits}
 use Rattle.score.specs.Ends.{PluckRefused, amplitude, count}
@@ -120,12 +121,14 @@ module _ (t : List ℕ) where
         made v either (change r v) (λ o. a .some (λ z. omega arith) (λ z. omega arith))
         (ap (λ (x : Call). number (v .voice) x) (sym z) ∙ e) (i ∙ ap (λ (x : Call). call v x) z)
 
-  returns : (v : State) (L d : ℕ) {c : Call} → Kind t L d c → ChangeReturns (v .voice) L d (number (v .voice) c)
+  returns : (v : State) (L d : ℕ) {c : Call} → Kind t L d c
+      → ChangeReturns (v .voice) L d (number (v .voice) c)
   returns v L d (announced e i) = rw i (refuses .announces (v .voice) L d)
   returns v L d (instantly e i) = rw i (refuses .instants (v .voice) L d)
 
   pub makes-change : {v u : State} → MakesChange t v u → Yields v (changeCalls r v) 0 u
-  makes-change {v} (no-change e f i) = left-out v either (change r v) (omega (arith, down (mapOf t) 1 e, down (mapOf t) 2 f)) i
+  makes-change {v} (no-change e f i) =
+      left-out v either (change r v) (omega (arith, down (mapOf t) 1 e, down (mapOf t) 2 f)) i
   makes-change {v} (changed {L} {d} a l k w o i) =
       makes v a o (returns v L d o .accepted .1 (l, (k, w))) i
 

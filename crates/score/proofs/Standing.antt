@@ -16,10 +16,12 @@ use Rattle.record.specs.Record.{mapOf, field, fields, rest, recordNumber, whole
 use Rattle.record.specs.Returns.{IllFormed}
 use Rattle.record.proofs.Reading.{good-map, taken-fields, taken-rest}
 use Rattle.record.proofs.Returns.{well, bytes-are}
-use Rattle.follow.specs.Follow.{value, result, lossCalls, changeCalls, pluckCalls, waitCalls, then, actCalls, recordCalls}
+use Rattle.follow.specs.Follow.{value, result, lossCalls, changeCalls, pluckCalls, waitCalls, then}
+use Rattle.follow.specs.Follow.{actCalls, recordCalls}
 use Rattle.follow.proofs.Waits.{wait-taken}
 use Rattle.score.specs.Run.{opening, playLimits}
-use Rattle.score.specs.Reached.{Opens, size, Readable, waited, SetsLoss, MakesChange, MakesPluck, Reached, first, later}
+use Rattle.score.specs.Reached.{Opens, size, Readable, waited, SetsLoss, MakesChange, MakesPluck}
+use Rattle.score.specs.Reached.{Reached, first, later}
 use Rattle.score.proofs.Playing.{Playing, begun, play-returned}
 use Rattle.score.proofs.Turns.{goes-on}
 use Rattle.score.proofs.Parts.{Yields, r, first-then, sets-loss, makes-change, makes-pluck}
@@ -47,11 +49,13 @@ module _ (t : List ℕ) where
         (more (record { least = omega arith; most = omega (arith, wait-is, a .fits) }) none)))
 
     -- what it does is what its calls do
-    module _ {v x y u : State} (l : SetsLoss t (waited t v) x) (c : MakesChange t x y) (p : MakesPluck t y u) where
+    module _ {v x y u : State} (l : SetsLoss t (waited t v) x) (c : MakesChange t x y)
+        (p : MakesPluck t y u) where
       pub followed : Yields v (recordCalls (fields t) v) 0 u
       unfolding recordCalls actCalls
       followed =
-          let rest-of = first-then (changeCalls (r t)) (pluckCalls (r t)) (makes-change t c) (makes-pluck t p) in
+          let rest-of =
+          first-then (changeCalls (r t)) (pluckCalls (r t)) (makes-change t c) (makes-pluck t p) in
           let acts = first-then (lossCalls (r t)) (then (changeCalls (r t)) (pluckCalls (r t)))
           (sets-loss t l) rest-of in
           rw (← taken-fields t good)
@@ -90,8 +94,10 @@ module _ {s : List ℕ} {out : List ℤ} {k : ℕ} {v : State} {left at : ℕ} (
         let e : done + value (fields t) 0 ≡ length out - (left - field t 0)
         = omega (arith, wait-is t q, q .fits, g .few) in
         let tail : rest t ≡ drop (at + size t) s
-        = sym (taken-rest t (good t q)) ∙ ap (λ (n : ℕ). drop n t) (bytes-are (mapOf t)) ∙ drop-drop (size t) at s in
-        let next = goes-on (drop 8 s) (fresh (opening s)) out v t k done (g .now) (g .playing) some-left passes
+        = sym (taken-rest t (good t q)) ∙ ap (λ (n : ℕ). drop n t) (bytes-are (mapOf t))
+        ∙ drop-drop (size t) at s in
+        let next = goes-on (drop 8 s) (fresh (opening s)) out v t k done (g .now) (g .playing)
+        some-left passes
         (puts v (recordCalls (fields t) v)) refl (sym e) (y .number) (sym (y .state)) in
         record {
           opens = g .opens;
@@ -110,7 +116,8 @@ standing s out (first o) =
       few = omega arith;
       within = o .whole;
       now = out;
-      playing = subst (λ (n : ℕ). Playing (drop 8 s) (fresh (opening s)) out (fresh (opening s)) (drop 8 s) 0 n out) e
+      playing =
+          subst (λ (n : ℕ). Playing (drop 8 s) (fresh (opening s)) out (fresh (opening s)) (drop 8 s) 0 n out) e
           (begun (drop 8 s) (fresh (opening s)) out);
     }
 standing s out (later {at = at} g q l c p) =

@@ -1,5 +1,5 @@
--- How a run ends: each number with its place and its count of samples, if and only if its condition holds and
--- no earlier one does. Statements alone: proofs/Answered.antt proves `Answered` of every run. Assumes nothing.
+-- How a run ends: each number, with its place and its count of samples, if and only if its condition holds
+-- and no earlier one does. Statements alone: proofs/Answered.antt proves `Answered`. Assumes nothing.
 use mathlib.Core.Path.{_≡_}
 use mathlib.Core.Logic.{_↔_}
 use mathlib.Core.List.{List}
@@ -12,7 +12,8 @@ use Rattle.record.specs.Record.{mapOf, field}
 use Rattle.record.specs.Returns.{IllFormed}
 use Rattle.score.specs.declared.Played.{Played}
 use Rattle.score.specs.Reached.{OrderIn, LengthIn, DelayIn, LossIn, AdvanceIn, Has, size}
-use Rattle.score.specs.Reached.{Readable, waited, SetsLoss, Given, AsksChange, Delayed, MakesChange, Reached}
+use Rattle.score.specs.Reached.{Readable, waited, SetsLoss, Given, AsksChange, Delayed, MakesChange}
+use Rattle.score.specs.Reached.{Reached}
 
 -- "14 in the header, then Open's"
 pub data HeaderRefused (s : List ℕ) : ℕ → Type 0 where
