@@ -15,11 +15,11 @@ use Rattle.rule.specs.Voice.{Voice}
 use Rattle.rule.specs.Calls.{Call, block, number, done}
 use Rattle.rule.specs.State.{blockAfter, blockOut, put}
 use Rattle.rule.proofs.Refusals.{refuses, quiet, unquiet}
-use Rattle.parts.specs.declared.Head.{Head}
-use Rattle.parts.specs.Struct.{voiceOf, stateOf}
-use Rattle.parts.specs.Valid.{Valid}
-use Rattle.parts.specs.Called.{On, lent}
-use Rattle.parts.proofs.Called.{call-refused, call-accepted}
+use Rattle.voice.specs.declared.Head.{Head}
+use Rattle.voice.specs.Struct.{voiceOf, stateOf}
+use Rattle.voice.specs.Valid.{Valid}
+use Rattle.voice.specs.Called.{On, lent}
+use Rattle.voice.proofs.Called.{call-refused, call-accepted}
 
 -- ---- a block's number
 module _ (v : Voice) (xs : List ℤ) (n : ℕ) where

@@ -3,11 +3,11 @@
 ghost use mathlib.Core.Path.{_≡_};
 ghost use lib.ListN.{length};
 ghost use Rattle.rule.specs.Calls.{block as Block};
-ghost use Rattle.parts.specs.Valid.{Valid};
-ghost use Rattle.parts.specs.Called.{On, lent};
-use parts::Answer;
-use parts::Head;
+ghost use Rattle.voice.specs.Valid.{Valid};
+ghost use Rattle.voice.specs.Called.{On, lent};
 use render::render;
+use voice::Answer;
+use voice::Head;
 
 // A block of samples: an output for each input.
 pub fn block(line: &mut [i32; 2112], head: Head, input: &[i32], output: &mut [i32]) -> Answer

@@ -16,15 +16,15 @@ use Rattle.rule.specs.Voice as Rule
 use Rattle.rule.specs.Voice.{Voice, A, rest, settled, tuned}
 use Rattle.rule.specs.Calls.{announce, instant, number, window, to, announced, done, count}
 use Rattle.rule.specs.State.{back}
-use Rattle.parts.specs.declared.Tuning.{Tuning}
-use Rattle.parts.specs.declared.Filter.{Filter}
-use Rattle.parts.specs.declared.Waiting.the-variants.{Idle, Announced}
-use Rattle.parts.specs.declared.Head.{Head}
-use Rattle.parts.specs.Struct.{tuningOf, voiceOf, withOf}
-use Rattle.parts.specs.Valid.{Waits, Fit}
+use Rattle.voice.specs.declared.Tuning.{Tuning}
+use Rattle.voice.specs.declared.Filter.{Filter}
+use Rattle.voice.specs.declared.Waiting.the-variants.{Idle, Announced}
+use Rattle.voice.specs.declared.Head.{Head}
+use Rattle.voice.specs.Struct.{tuningOf, voiceOf, withOf}
+use Rattle.voice.specs.Valid.{Waits, Fit}
 use Rattle.step.specs.Sample.{Ran}
-use Rattle.parts.specs.Called.{Rests, Called, On}
-use Rattle.parts.proofs.Called.{voice-by, fit-as, called, called-on}
+use Rattle.voice.specs.Called.{Rests, Called, On}
+use Rattle.voice.proofs.Called.{voice-by, fit-as, called, called-on}
 
 -- ---- in the rule's terms
 module _ (v : Voice) (t : Rule.Tuning) where

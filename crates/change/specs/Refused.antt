@@ -5,8 +5,8 @@ use Prim.Native.Nat.{ℕ, _≤_}
 use Rattle.refusal.specs.Limits.{refusal}
 use Rattle.refusal.specs.Orders.{Takes}
 use Rattle.rule.specs.Calls.{changeLimits}
-use Rattle.parts.specs.declared.Head.{Head}
-use Rattle.parts.specs.Struct.{voiceOf}
+use Rattle.voice.specs.declared.Head.{Head}
+use Rattle.voice.specs.Struct.{voiceOf}
 
 -- r is what a change is refused by; the tuning of one that is not is within its limits
 pub record Refuses (h : Head) (L d r : ℕ) : Type 0 where

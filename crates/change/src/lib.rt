@@ -9,20 +9,20 @@ ghost use Rattle.rule.specs.Calls.{window};
 ghost use Rattle.rule.specs.Tests.{waitings};
 ghost use Rattle.rule.specs.State.{back};
 ghost use Rattle.line.specs.Ring.{ring};
-ghost use Rattle.parts.specs.Struct.{waitingOf, voiceOf};
-ghost use Rattle.parts.specs.Valid.{Tuned, Fit, Valid};
+ghost use Rattle.voice.specs.Struct.{waitingOf, voiceOf};
+ghost use Rattle.voice.specs.Valid.{Tuned, Fit, Valid};
 ghost use Rattle.step.specs.Sample.{Ran};
-ghost use Rattle.parts.specs.Called.{Called, On};
+ghost use Rattle.voice.specs.Called.{Called, On};
 ghost use Rattle.change.specs.Refused.{Refuses};
-use parts::Answer;
-use parts::Filter;
-use parts::Head;
-use parts::Waiting;
-use parts::resting;
-use parts::untuned;
-use parts::with;
 use refusal::tested;
 use step::filter::moved;
+use voice::Answer;
+use voice::Filter;
+use voice::Head;
+use voice::Waiting;
+use voice::resting;
+use voice::untuned;
+use voice::with;
 
 // What an instant change returns: count is the number of samples that its eliminator was run over.
 pub struct Changed {

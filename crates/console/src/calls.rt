@@ -5,9 +5,7 @@ ghost use mathlib.Core.List.{List};
 ghost use Prim.Native.Nat.{_≤_};
 ghost use lib.IntN.{ℤ};
 ghost use lib.ListN.{length};
-ghost use Rattle.parts.specs.Valid.{Fit, Valid};
-use parts::Answer;
-use parts::Head;
+ghost use Rattle.voice.specs.Valid.{Fit, Valid};
 use request::Request;
 use request::kinds::ANNOUNCE;
 use request::kinds::INSTANT;
@@ -15,6 +13,8 @@ use request::kinds::LOSS;
 use request::kinds::OPEN;
 use request::kinds::PLUCK;
 use request::lists::samples;
+use voice::Answer;
+use voice::Head;
 
 // What a call returned: its number, the count of an instant change, and the voice's head.
 pub struct Made {
@@ -39,7 +39,7 @@ fn plain(a: Answer) -> Made
 pub fn opened(line: &mut [i32; 2112], l: Request) -> Made
     ensures { λ r. ⌜ Valid (r .head) (now (line .exit)) ⌝ }
 {
-    let o = voice::open::open(l.a, l.b, l.c, l.d, l.e);
+    let o = open::open(l.a, l.b, l.c, l.d, l.e);
     let x = o.voice.line;
     *line = x;
     let h = o.voice.head;
@@ -89,10 +89,10 @@ fn set(head: Head, l: Request) -> Answer
     ensures { λ r. ⌜ ((k : List ℤ) → Valid head k → Valid (r .head) k) ⌝ }
 {
     if l.kind == LOSS {
-        return voice::calls::loss(head, l.a);
+        return open::calls::loss(head, l.a);
     }
     if l.kind == PLUCK {
-        return voice::calls::pluck(head, l.a, l.b, l.c);
+        return open::calls::pluck(head, l.a, l.b, l.c);
     }
     if l.kind == ANNOUNCE {
         return change::announce(head, l.a, l.b);

@@ -3,7 +3,7 @@
 ghost use mathlib.Core.Path.{_≡_};
 ghost use Prim.Native.Nat.{_+_, _-_, _≤_};
 ghost use lib.ListN.{length};
-ghost use Rattle.parts.specs.Valid.{Valid};
+ghost use Rattle.voice.specs.Valid.{Valid};
 use libc::STDIN_FILENO;
 
 mod calls;
@@ -13,13 +13,13 @@ mod start;
 mod turn;
 
 use calls::opened;
-use parts::Head;
 use print::bytes;
 use print::flush;
 use print::number;
 use request::kinds::EMPTY;
 use request::plain;
 use turn::answered;
+use voice::Head;
 use words::before;
 
 // Room for the text and one byte more.

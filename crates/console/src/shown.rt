@@ -3,14 +3,14 @@
 ghost use Prim.Native.Nat.{_<_};
 use allpass::State;
 use integer::Value;
-use parts::Filter;
-use parts::Head;
-use parts::Pluck;
-use parts::Waiting;
 use print::pair;
 use print::short;
 use print::signed;
 use print::triple;
+use voice::Filter;
+use voice::Head;
+use voice::Pluck;
+use voice::Waiting;
 
 // The two numbers of a filter's state; the second is 0 in order 1.
 fn held(buffer: &mut [u8; 4096], at: usize, s: State) -> usize {

@@ -1,7 +1,7 @@
 // One line of the text: read, called and answered.
 // What a line lends is made for its call.
 ghost use lib.ListN.{length};
-ghost use Rattle.parts.specs.Valid.{Valid};
+ghost use Rattle.voice.specs.Valid.{Valid};
 ghost use Rattle.request.specs.Within.{Within};
 use crate::calls::blocked;
 use crate::calls::call;
@@ -11,7 +11,6 @@ use crate::shown::state;
 use crate::start::returned;
 use crate::start::start;
 use answers::asked;
-use parts::Head;
 use print::bytes;
 use print::samples;
 use print::short;
@@ -22,6 +21,7 @@ use request::kinds::LINE;
 use request::kinds::RUN;
 use request::kinds::STATE;
 use request::parse;
+use voice::Head;
 use words::before;
 
 // What is left after a line: the voice's head, and the place in the buffer.

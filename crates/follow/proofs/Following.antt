@@ -9,11 +9,11 @@ use lib.Dec.{eqb}
 use lib.IntN.{ℤ}
 use Rattle.rule.specs.Calls.{Call, announce, instant}
 use Rattle.rule.specs.State.{State, from}
-use Rattle.parts.specs.declared.Head.{Head}
-use Rattle.parts.specs.declared.Answer.{Answer}
-use Rattle.parts.specs.Struct.{stateOf}
-use Rattle.parts.specs.Valid.{Valid}
-use Rattle.parts.specs.Called.{On}
+use Rattle.voice.specs.declared.Head.{Head}
+use Rattle.voice.specs.declared.Answer.{Answer}
+use Rattle.voice.specs.Struct.{stateOf}
+use Rattle.voice.specs.Valid.{Valid}
+use Rattle.voice.specs.Called.{On}
 use Rattle.follow.specs.Follow.{stands, lengthTo, delayTo, change, result, then}
 use Rattle.follow.specs.Does.{Does}
 use Rattle.follow.proofs.Sequence.{from-append, result-past, result-one, then-past, then-stops}

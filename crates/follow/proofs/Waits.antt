@@ -15,10 +15,10 @@ use Rattle.rule.specs.Calls.{Call, block, announce, instant, number, done, inpu
 use Rattle.rule.specs.State.{State, blockAfter, blockOut, call, put, puts, from}
 use Rattle.rule.proofs.Refusals.{refuses, quiet}
 use Rattle.rule.proofs.Puts.{put-none}
-use Rattle.parts.specs.declared.Head.{Head}
-use Rattle.parts.specs.Struct.{stateOf}
-use Rattle.parts.specs.Valid.{Valid}
-use Rattle.parts.proofs.Called.{call-accepted}
+use Rattle.voice.specs.declared.Head.{Head}
+use Rattle.voice.specs.Struct.{stateOf}
+use Rattle.voice.specs.Valid.{Valid}
+use Rattle.voice.proofs.Called.{call-accepted}
 use Rattle.follow.specs.Follow.{value, stands, absent, waitCalls}
 use Rattle.follow.specs.Follow.{lossCalls, change, changeCalls, pluckCalls}
 use Rattle.follow.specs.Follow.{lengthTo, delayTo, result, then, actCalls, recordCalls}

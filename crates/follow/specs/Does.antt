@@ -5,10 +5,10 @@ use mathlib.Core.List.{List}
 use lib.IntN.{ℤ}
 use Rattle.rule.specs.Calls.{Call}
 use Rattle.rule.specs.State.{from}
-use Rattle.parts.specs.declared.Head.{Head}
-use Rattle.parts.specs.declared.Answer.{Answer}
-use Rattle.parts.specs.Struct.{stateOf}
-use Rattle.parts.specs.Valid.{Valid}
+use Rattle.voice.specs.declared.Head.{Head}
+use Rattle.voice.specs.declared.Answer.{Answer}
+use Rattle.voice.specs.Struct.{stateOf}
+use Rattle.voice.specs.Valid.{Valid}
 use Rattle.follow.specs.Follow.{result}
 
 -- the calls cs on a head and the line l, which is left as k: the number that ends them, and the voice

@@ -7,13 +7,13 @@ ghost use lib.Dec.{eqb};
 ghost use lib.IntN.{ℤ};
 ghost use lib.ListN.{length};
 ghost use Rattle.rule.specs.State.{puts};
-ghost use Rattle.parts.specs.Struct.{stateOf};
-ghost use Rattle.parts.specs.Valid.{Fit, Valid};
+ghost use Rattle.voice.specs.Struct.{stateOf};
+ghost use Rattle.voice.specs.Valid.{Fit, Valid};
 ghost use Rattle.follow.specs.Follow.{value, lossCalls, changeCalls, pluckCalls, actCalls, recordCalls};
 ghost use Rattle.follow.specs.Does.{Does};
-use parts::Answer;
-use parts::Head;
 use record::bit;
+use voice::Answer;
+use voice::Head;
 
 // Sets G, where the record has one.
 fn set_loss(head: Head, r: &[u32; 9]) -> Answer
@@ -27,7 +27,7 @@ fn set_loss(head: Head, r: &[u32; 9]) -> Answer
             head: head,
         };
     }
-    voice::calls::loss(head, r[5])
+    open::calls::loss(head, r[5])
 }
 
 // Changes L or d, where the record has one of them, to it and the other that is in force.
@@ -66,7 +66,7 @@ fn pluck(head: Head, r: &[u32; 9]) -> Answer
         };
     }
     let count = chosen(bit(map, 32), r[7], head.filter.tuning.length);
-    voice::calls::pluck(head, r[6], count, r[8])
+    open::calls::pluck(head, r[6], count, r[8])
 }
 
 // A field where its bit stands, else the number in its place.

@@ -11,9 +11,9 @@ use lib.ListN.{length, take, drop, take-append-drop}
 use Rattle.rule.specs.Calls.{Call, inputs, number}
 use Rattle.rule.specs.State.{State, told, blockOut, put}
 use Rattle.rule.proofs.Puts.{put-none}
-use Rattle.parts.specs.declared.Head.{Head}
-use Rattle.parts.specs.Struct.{stateOf, voiceOf}
-use Rattle.parts.specs.Called.{lent}
+use Rattle.voice.specs.declared.Head.{Head}
+use Rattle.voice.specs.Struct.{stateOf, voiceOf}
+use Rattle.voice.specs.Called.{lent}
 use Rattle.list.specs.Words.{called}
 use Rattle.list.specs.Performed.{over}
 

@@ -14,14 +14,14 @@ use Rattle.rule.specs.Click.{ClickFigure}
 use Rattle.rule.proofs.Refusals.{refuses}
 use Rattle.rule.proofs.Puts.{put-none}
 use Rattle.rule.proofs.Click.{click}
-use Rattle.parts.specs.declared.Head.{Head}
-use Rattle.parts.specs.declared.Answer.{Answer}
-use Rattle.parts.specs.Struct.{voiceOf, stateOf}
-use Rattle.parts.specs.Valid.{Valid}
-use Rattle.parts.specs.Called.{Called, On, lent}
-use Rattle.parts.proofs.Called.{on}
-use Rattle.voice.specs.declared.open.Opened.{Opened}
-use Rattle.voice.specs.Opened.{Opens}
+use Rattle.voice.specs.declared.Head.{Head}
+use Rattle.voice.specs.declared.Answer.{Answer}
+use Rattle.voice.specs.Struct.{voiceOf, stateOf}
+use Rattle.voice.specs.Valid.{Valid}
+use Rattle.voice.specs.Called.{Called, On, lent}
+use Rattle.voice.proofs.Called.{on}
+use Rattle.open.specs.declared.Opened.{Opened}
+use Rattle.open.specs.Opened.{Opens}
 use Rattle.list.specs.Chain.{heard, Chain, none, called, changed, rendered, Chained}
 
 -- what the calls cs do from the head h and the line l, as the list of them does from that voice

@@ -10,11 +10,11 @@ use lib.ListN.{length}
 use Rattle.rule.specs.Calls.{Call, Opening, block, instant, inputs}
 use Rattle.rule.specs.State.{fresh, from, puts, numbers}
 use Rattle.rule.specs.Click.{ClickFigure}
-use Rattle.parts.specs.declared.Head.{Head}
-use Rattle.parts.specs.declared.Answer.{Answer}
-use Rattle.parts.specs.Struct.{stateOf}
-use Rattle.parts.specs.Valid.{Valid}
-use Rattle.parts.specs.Called.{Called, On, lent}
+use Rattle.voice.specs.declared.Head.{Head}
+use Rattle.voice.specs.declared.Answer.{Answer}
+use Rattle.voice.specs.Struct.{stateOf}
+use Rattle.voice.specs.Valid.{Valid}
+use Rattle.voice.specs.Called.{Called, On, lent}
 
 -- the samples that a block has put out, which are in the lent output unless it was refused
 abbrev pub heard : ℕ → List ℤ → List ℤ

@@ -1,7 +1,7 @@
 // One routine that performs a list of calls, in words, on a fresh voice: whatever calls, in whatever order.
 // Contracts cite specs/Performed.antt; demand 3 holds of its output for every list, specs/Clicks.antt.
 ghost use Rattle.list.specs.Performed.{Performs};
-use voice::open::open;
+use open::open;
 
 mod one;
 mod run;

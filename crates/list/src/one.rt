@@ -5,9 +5,9 @@ ghost use mathlib.Core.List.{List};
 ghost use Prim.Native.Nat.{_≤_, _<_};
 ghost use lib.ListN.{length};
 ghost use Rattle.rule.specs.State.{put};
-ghost use Rattle.parts.specs.Struct.{stateOf};
-ghost use Rattle.parts.specs.Valid.{Valid};
-ghost use Rattle.parts.specs.Called.{On};
+ghost use Rattle.voice.specs.Struct.{stateOf};
+ghost use Rattle.voice.specs.Valid.{Valid};
+ghost use Rattle.voice.specs.Called.{On};
 ghost use Rattle.list.specs.Words.{called, takes, lends};
 ghost use Rattle.list.specs.Performed.{over};
 ghost use lib.IntN.{ℤ};
@@ -15,10 +15,10 @@ use crate::words::Item;
 use block::block;
 use change::announce;
 use change::instant;
-use parts::Answer;
-use parts::Head;
-use voice::calls::loss;
-use voice::calls::pluck;
+use open::calls::loss;
+use open::calls::pluck;
+use voice::Answer;
+use voice::Head;
 
 // The calls that are no block.
 fn set(line: &[i32; 2112], head: Head, w: Item) -> Answer

@@ -4,14 +4,14 @@ ghost use mathlib.Core.Path.{_≡_};
 ghost use mathlib.Core.Bool.{true};
 ghost use lib.ListN.{length};
 ghost use Rattle.rule.specs.State.{puts, numbers as Numbers};
-ghost use Rattle.parts.specs.Struct.{stateOf};
-ghost use Rattle.parts.specs.Valid.{Valid};
+ghost use Rattle.voice.specs.Struct.{stateOf};
+ghost use Rattle.voice.specs.Valid.{Valid};
 ghost use Rattle.list.specs.Words.{calls, formed};
 ghost use Rattle.list.specs.Performed.{over};
 use crate::one::one;
 use crate::words::if_zero;
 use crate::words::item_at;
-use parts::Head;
+use voice::Head;
 
 // Makes the calls of words, which are in form, and returns how many samples they put out.
 pub fn run(

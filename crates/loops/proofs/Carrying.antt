@@ -16,13 +16,13 @@ use Rattle.thiran.specs.Answers.{padded}
 use Rattle.allpass.specs.declared.State.{State}
 use Rattle.line.specs.Ring.{ring}
 use Rattle.rule.specs.State.{back}
-use Rattle.parts.specs.declared.Tuning.{Tuning}
-use Rattle.parts.specs.declared.Filter.{Filter}
-use Rattle.parts.specs.declared.Waiting.{Waiting}
-use Rattle.parts.specs.declared.Waiting.the-variants.{Idle, Announced}
-use Rattle.parts.specs.declared.Head.{Head}
-use Rattle.parts.specs.Struct.{withOf}
-use Rattle.parts.specs.Valid.{Tuned, Valid}
+use Rattle.voice.specs.declared.Tuning.{Tuning}
+use Rattle.voice.specs.declared.Filter.{Filter}
+use Rattle.voice.specs.declared.Waiting.{Waiting}
+use Rattle.voice.specs.declared.Waiting.the-variants.{Idle, Announced}
+use Rattle.voice.specs.declared.Head.{Head}
+use Rattle.voice.specs.Struct.{withOf}
+use Rattle.voice.specs.Valid.{Tuned, Valid}
 use Rattle.step.specs.declared.feedback.Circulated.{Circulated}
 use Rattle.step.specs.Sample.{Moved, Settles, Circulates, Steps}
 use Rattle.step.proofs.Silent.{sounds-none}

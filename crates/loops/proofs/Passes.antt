@@ -9,9 +9,9 @@ use lib.ListN.{length, getD, set}
 use Rattle.integer.specs.Rounding.{M}
 use Rattle.samples.specs.Samples.{loudest}
 use Rattle.rule.specs.State.{State, step}
-use Rattle.parts.specs.declared.Head.{Head}
-use Rattle.parts.specs.Struct.{stateOf}
-use Rattle.parts.specs.Valid.{Valid}
+use Rattle.voice.specs.declared.Head.{Head}
+use Rattle.voice.specs.Struct.{stateOf}
+use Rattle.voice.specs.Valid.{Valid}
 use Rattle.step.specs.declared.Stepped.{Stepped}
 use Rattle.step.specs.Sample.{Steps}
 use Rattle.loops.specs.Rendered.{Rendered}

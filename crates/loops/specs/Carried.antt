@@ -5,10 +5,10 @@ use Prim.Native.Nat.{ℕ}
 use lib.Dec.{eqb}
 use Rattle.integer.specs.declared.Value.{Value}
 use Rattle.allpass.specs.declared.State.{State}
-use Rattle.parts.specs.declared.Filter.{Filter}
-use Rattle.parts.specs.declared.Waiting.the-variants.{Idle, Announced}
-use Rattle.parts.specs.declared.Head.{Head}
-use Rattle.parts.specs.Struct.{withOf}
+use Rattle.voice.specs.declared.Filter.{Filter}
+use Rattle.voice.specs.declared.Waiting.the-variants.{Idle, Announced}
+use Rattle.voice.specs.declared.Head.{Head}
+use Rattle.voice.specs.Struct.{withOf}
 
 -- f with another state, in an order that is its own
 abbrev pub anewOf : ℕ → Filter → State → Filter

@@ -4,11 +4,11 @@ ghost use mathlib.Core.Path.{_≡_};
 ghost use Rattle.loops.specs.Carried.{anewOf, carriedOf, dueOf};
 use allpass::State;
 use integer::Value;
-use parts::Filter;
-use parts::Head;
-use parts::Tuning;
-use parts::Waiting;
-use parts::with;
+use voice::Filter;
+use voice::Head;
+use voice::Tuning;
+use voice::Waiting;
+use voice::with;
 
 // f, in an order that is its own, with another state.
 pub fn anew(order: u32, f: Filter, v: State) -> Filter

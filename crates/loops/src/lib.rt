@@ -5,19 +5,19 @@ ghost use Prim.Native.Nat.{_+_, _≤_};
 ghost use lib.ListN.{length};
 ghost use Rattle.integer.specs.Rounding.{M};
 ghost use Rattle.samples.specs.Samples.{loudest};
-ghost use Rattle.parts.specs.declared.Waiting.the-variants.{Idle, Announced};
-ghost use Rattle.parts.specs.Struct.{stateOf};
-ghost use Rattle.parts.specs.Valid.{Valid};
+ghost use Rattle.voice.specs.declared.Waiting.the-variants.{Idle, Announced};
+ghost use Rattle.voice.specs.Struct.{stateOf};
+ghost use Rattle.voice.specs.Valid.{Valid};
 ghost use Rattle.loops.specs.Carried.{dueOf};
 ghost use Rattle.loops.specs.Rendered.{Rendered};
 use crate::carried::anew;
 use crate::carried::carried;
 use crate::carried::due;
 use integer::Value;
-use parts::Filter;
-use parts::Head;
 use step::feedback::circulate;
 use step::filter::moved;
+use voice::Filter;
+use voice::Head;
 
 mod carried;
 

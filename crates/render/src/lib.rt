@@ -6,14 +6,14 @@ ghost use lib.ListN.{length};
 ghost use Rattle.integer.specs.Rounding.{M};
 ghost use Rattle.samples.specs.Samples.{loudest};
 ghost use Rattle.rule.specs.State.{blockAfter, blockOut};
-ghost use Rattle.parts.specs.Struct.{stateOf};
-ghost use Rattle.parts.specs.Valid.{Valid};
+ghost use Rattle.voice.specs.Struct.{stateOf};
+ghost use Rattle.voice.specs.Valid.{Valid};
 ghost use Rattle.loops.specs.Rendered.{Rendered};
 use loops::ahead;
 use loops::steady;
-use parts::Head;
-use parts::Waiting;
 use step::step;
+use voice::Head;
+use voice::Waiting;
 
 // A voice once the first samples of a buffer are rendered, so many as are done.
 pub struct Part {

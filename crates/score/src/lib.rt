@@ -2,15 +2,15 @@
 // A record's number is known before any of its samples is written.
 ghost use mathlib.Core.Path.{_≡_};
 ghost use lib.ListN.{getD};
-ghost use Rattle.parts.specs.Struct.{stateOf};
-ghost use Rattle.parts.specs.Valid.{Valid};
+ghost use Rattle.voice.specs.Struct.{stateOf};
+ghost use Rattle.voice.specs.Valid.{Valid};
 ghost use Rattle.refusal.specs.Returned.{Tests};
 ghost use Rattle.score.specs.Run.{fits};
 ghost use Rattle.score.specs.Played.{PlaysAll, Runs};
 use follow::follow;
-use parts::Head;
 use record::read_record;
 use record::word;
+use voice::Head;
 
 // What a run returns: its number, its place, and how many samples it wrote.
 pub struct Played {
@@ -93,7 +93,7 @@ pub fn run(score: &[u8], output: &mut [i32]) -> Played
             written: 0,
         };
     }
-    let a = voice::open::open(
+    let a = open::open(
         score[0] as u32,
         word(score, 2),
         word(score, 4),

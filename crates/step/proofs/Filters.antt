@@ -14,9 +14,9 @@ use Rattle.allpass.proofs.Bounds.{out-within}
 use Rattle.allpass.proofs.Stored.{fed-held, fed-next}
 use Rattle.allpass.proofs.Taken.{taken-taps, taken-past, taken-small}
 use Rattle.rule.specs.Voice.{A}
-use Rattle.parts.specs.declared.Filter.{Filter}
-use Rattle.parts.specs.Struct.{tuningOf, filterOf}
-use Rattle.parts.specs.Valid.{Tuned}
+use Rattle.voice.specs.declared.Filter.{Filter}
+use Rattle.voice.specs.Struct.{tuningOf, filterOf}
+use Rattle.voice.specs.Valid.{Tuned}
 use Rattle.step.specs.Sample.{Moved, Hears}
 
 -- the coefficients that its struct holds

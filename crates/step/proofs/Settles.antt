@@ -6,13 +6,13 @@ use native.Mathlib.Omega.{arith}
 use borrow.Author.Tests.{eq-eqb, ne-eqb}
 use lib.IntN.{ℤ}
 use Rattle.rule.specs.Voice as Rule
-use Rattle.parts.specs.declared.Tuning.{Tuning}
-use Rattle.parts.specs.declared.Filter.{Filter}
-use Rattle.parts.specs.declared.Waiting.the-variants.{Idle, Announced}
-use Rattle.parts.specs.declared.Head.{Head}
-use Rattle.parts.specs.Struct.{withOf}
-use Rattle.parts.specs.Valid.{Waits, Fit}
-use Rattle.parts.proofs.Called.{fit-as}
+use Rattle.voice.specs.declared.Tuning.{Tuning}
+use Rattle.voice.specs.declared.Filter.{Filter}
+use Rattle.voice.specs.declared.Waiting.the-variants.{Idle, Announced}
+use Rattle.voice.specs.declared.Head.{Head}
+use Rattle.voice.specs.Struct.{withOf}
+use Rattle.voice.specs.Valid.{Waits, Fit}
+use Rattle.voice.proofs.Called.{fit-as}
 use Rattle.step.specs.Sample.{Moved, Settles}
 
 module _ {h : Head} (f : Fit h) where

@@ -4,8 +4,8 @@ use mathlib.Core.Path.{_≡_}
 use native.Mathlib.Omega.{arith}
 use lib.IntN.{pos}
 use Rattle.rule.specs.Voice.{noise, spent}
-use Rattle.parts.specs.declared.Pluck.{Pluck}
-use Rattle.parts.specs.Valid.{Plucked}
+use Rattle.voice.specs.declared.Pluck.{Pluck}
+use Rattle.voice.specs.Valid.{Plucked}
 use Rattle.step.specs.Sample.{Sounds}
 
 pub sounds-none : {p : Pluck} → Plucked p → p .left ≡ 0

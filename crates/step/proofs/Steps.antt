@@ -13,14 +13,14 @@ use Rattle.rule.specs.Voice.{Voice, output, written, heard, fedToo, settled, st
 use Rattle.rule.specs.State as Rule
 use Rattle.rule.specs.State.{back}
 use Rattle.rule.proofs.States.{take-within, same-state}
-use Rattle.parts.specs.declared.Waiting.{Waiting}
-use Rattle.parts.specs.declared.Waiting.the-variants.{Idle, Announced}
-use Rattle.parts.specs.declared.Pluck.{Pluck}
-use Rattle.parts.specs.declared.Head.{Head}
+use Rattle.voice.specs.declared.Waiting.{Waiting}
+use Rattle.voice.specs.declared.Waiting.the-variants.{Idle, Announced}
+use Rattle.voice.specs.declared.Pluck.{Pluck}
+use Rattle.voice.specs.declared.Head.{Head}
 use Rattle.step.specs.declared.sound.Sounded.{Sounded}
 use Rattle.step.specs.declared.feedback.Circulated.{Circulated}
-use Rattle.parts.specs.Struct.{waitingOf, voiceOf}
-use Rattle.parts.specs.Valid.{Waiting-valid, Fit, Valid}
+use Rattle.voice.specs.Struct.{waitingOf, voiceOf}
+use Rattle.voice.specs.Valid.{Waiting-valid, Fit, Valid}
 use Rattle.step.specs.Sample.{Reads, previewed, Sounds, Settles, Circulates, Steps}
 
 -- ---- the length that the eliminator reads at

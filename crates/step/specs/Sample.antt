@@ -11,17 +11,17 @@ use Rattle.line.specs.Ring.{ring}
 use Rattle.rule.specs.Voice.{A, noise, spent, fedToo, settled}
 use Rattle.rule.specs.State as Rule
 use Rattle.rule.specs.State.{back}
-use Rattle.parts.specs.declared.Filter.{Filter}
-use Rattle.parts.specs.declared.Waiting.{Waiting}
-use Rattle.parts.specs.declared.Waiting.the-variants.{Idle, Announced}
-use Rattle.parts.specs.declared.Pluck.{Pluck}
-use Rattle.parts.specs.declared.Head.{Head}
+use Rattle.voice.specs.declared.Filter.{Filter}
+use Rattle.voice.specs.declared.Waiting.{Waiting}
+use Rattle.voice.specs.declared.Waiting.the-variants.{Idle, Announced}
+use Rattle.voice.specs.declared.Pluck.{Pluck}
+use Rattle.voice.specs.declared.Head.{Head}
 use Rattle.step.specs.declared.filter.Heard.{Heard}
 use Rattle.step.specs.declared.sound.Sounded.{Sounded}
 use Rattle.step.specs.declared.feedback.Circulated.{Circulated}
 use Rattle.step.specs.declared.Stepped.{Stepped}
-use Rattle.parts.specs.Struct.{tuningOf, filterOf, waitingOf, pluckOf, voiceOf, stateOf}
-use Rattle.parts.specs.Valid.{Tuned, Plucked, Fit, Valid}
+use Rattle.voice.specs.Struct.{tuningOf, filterOf, waitingOf, pluckOf, voiceOf, stateOf}
+use Rattle.voice.specs.Valid.{Tuned, Plucked, Fit, Valid}
 
 -- a filter that took x
 pub record Moved (f : Filter) (x : ℤ) (r : Filter) : Type 0 where

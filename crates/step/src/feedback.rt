@@ -6,13 +6,13 @@ ghost use lib.IntN.{pos, natAbs, _+ℤ_, _*ℤ_};
 ghost use Rattle.integer.specs.Rounding.{M, floor, clip as Clip};
 ghost use Rattle.allpass.specs.Bounds.{Within};
 ghost use Rattle.line.specs.Ring.{ring};
-ghost use Rattle.parts.specs.Valid.{Tuned};
+ghost use Rattle.voice.specs.Valid.{Tuned};
 ghost use Rattle.step.specs.Sample.{Circulates};
 use crate::filter::hear;
 use integer::Value;
 use integer::clip;
 use integer::floor_q17;
-use parts::Filter;
+use voice::Filter;
 
 // at is the place of the next sample.
 pub struct Circulated {

@@ -3,12 +3,12 @@
 ghost use Prim.Native.Nat.{_≤_};
 ghost use lib.IntN.{natAbs};
 ghost use Rattle.integer.specs.Rounding.{M};
-ghost use Rattle.parts.specs.Valid.{Tuned};
+ghost use Rattle.voice.specs.Valid.{Tuned};
 ghost use Rattle.step.specs.Sample.{Moved, Hears};
 use allpass::filter::allpass;
 use allpass::filter::eliminate;
 use integer::Value;
-use parts::Filter;
+use voice::Filter;
 
 pub struct Heard {
     pub y: Value,

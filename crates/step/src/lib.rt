@@ -4,7 +4,7 @@ ghost use mathlib.Core.Path.{_≡_};
 ghost use Prim.Native.Nat.{_≤_};
 ghost use lib.IntN.{natAbs};
 ghost use Rattle.integer.specs.Rounding.{M};
-ghost use Rattle.parts.specs.Valid.{Waiting-valid, Fit, Valid};
+ghost use Rattle.voice.specs.Valid.{Waiting-valid, Fit, Valid};
 ghost use Rattle.step.specs.Sample.{Settles, Steps, previewed};
 
 pub mod feedback;
@@ -14,10 +14,10 @@ mod sound;
 use feedback::circulate;
 use filter::moved;
 use integer::Value;
-use parts::Head;
-use parts::Waiting;
-use parts::with;
 use sound::sound;
+use voice::Head;
+use voice::Waiting;
+use voice::with;
 
 pub struct Stepped {
     pub y: Value,

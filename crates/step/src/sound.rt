@@ -3,12 +3,12 @@
 ghost use mathlib.Core.Path.{_≡_};
 ghost use Prim.Native.Nat.{_≤_, _^_};
 ghost use lib.IntN.{pos, natAbs, _*ℤ_};
-ghost use Rattle.parts.specs.Valid.{Plucked};
+ghost use Rattle.voice.specs.Valid.{Plucked};
 ghost use Rattle.step.specs.Sample.{Sounds};
 use integer::Value;
 use noise::Drawn;
 use noise::draw;
-use parts::Pluck;
+use voice::Pluck;
 
 pub struct Sounded {
     pub noise: Value,

@@ -1,1 +1,3 @@
-pub mod Opened
+pub mod Called
+pub mod Tunes
+pub mod Within

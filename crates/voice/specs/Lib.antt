@@ -1,1 +1,3 @@
-pub mod Opened
+pub mod Struct
+pub mod Valid
+pub mod Called

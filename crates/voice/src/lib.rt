@@ -1,4 +1,102 @@
-// Open, and the calls that set a number. A voice is a head, which goes by value, and a line, which is lent.
-// Contracts speak of the sample rule's State, through crate parts, whose Valid is all that a call requires.
-pub mod calls;
-pub mod open;
+// The parts of a voice as the code holds them, what a call returns, and what the calls share.
+// specs/Struct.antt says which voice a head and a line are.
+ghost use mathlib.Core.Path.{_≡_};
+ghost use mathlib.Core.List.{[], _∷_};
+ghost use Prim.Native.Nat.{_≤_};
+ghost use Rattle.refusal.specs.Limits.{refusal};
+ghost use Rattle.refusal.specs.Orders.{Takes, orders, delay as Delay};
+ghost use Rattle.rule.specs.Tests.{long};
+ghost use Rattle.voice.specs.Struct.{withOf};
+ghost use Rattle.voice.specs.Called.{Rests};
+use allpass::State;
+use integer::Value;
+use thiran::formula::Coefficients;
+
+pub struct Tuning {
+    pub order: u32,
+    pub length: u32,
+    pub delay: u32,
+}
+
+// A filter or an eliminator: its tuning, the coefficients of that tuning, and its state.
+pub struct Filter {
+    pub tuning: Tuning,
+    pub coefficients: Coefficients,
+    pub state: State,
+}
+
+// A change that waits, with how many samples its eliminator has taken, or none.
+pub enum Waiting {
+    Idle,
+    Announced(Filter, u32),
+}
+
+// The rest of a pluck, with its noise state; all 0 where no step is left.
+pub struct Pluck {
+    pub amplitude: u32,
+    pub left: u32,
+    pub noise: u32,
+}
+
+// A voice but for its line; at is the place in the line of the next sample.
+pub struct Head {
+    pub filter: Filter,
+    pub loss: u32,
+    pub advance: u32,
+    pub last: Value,
+    pub waiting: Waiting,
+    pub pluck: Pluck,
+    pub at: usize,
+}
+
+// What a call returns: a refusal is document 01's number, and 0 for success.
+pub struct Answer {
+    pub refusal: u32,
+    pub head: Head,
+}
+
+// h with another filter in force and another change waiting.
+pub fn with(h: Head, filter: Filter, waiting: Waiting) -> Head
+    ensures { λ r. ⌜ r ≡ withOf h filter waiting ⌝ }
+{
+    let y = h.last;
+    let p = h.pluck;
+    Head {
+        filter: filter,
+        loss: h.loss,
+        advance: h.advance,
+        last: y,
+        waiting: waiting,
+        pluck: p,
+        at: h.at,
+    }
+}
+
+// The filter of a tuning, at rest.
+pub fn resting(order: u32, length: u32, delay: u32) -> Filter
+    requires { ⌜ Takes order delay × (1 ≤ length) × (length ≤ 2048) ⌝ }
+    ensures { λ r. ⌜ Rests order length delay r ⌝ }
+{
+    let c = thiran::formula::set(order, delay);
+    let t = Tuning {
+        order: order,
+        length: length,
+        delay: delay,
+    };
+    let s = State { v1: 0, v2: 0 };
+    Filter {
+        tuning: t,
+        coefficients: c,
+        state: s,
+    }
+}
+
+// What a length and a delay are refused by in an order: 2, 3, else 0.
+pub fn untuned(order: u32, length: u32, delay: u32) -> u32
+    requires { ⌜ (1 ≤ order) × (order ≤ orders) ⌝ }
+    ensures { λ r. ⌜ r ≡ refusal (long length ∷ Delay order delay ∷ []) ⌝ }
+{
+    let code = refusal::tested(0, refusal::LENGTH, length, 1, 2_048);
+    let middle = 4_096 * order;
+    refusal::tested(code, refusal::DELAY, delay, middle - 2_047, middle + 2_048)
+}

@@ -13,7 +13,7 @@ use Rattle.integer.specs.Rounding.{M}
 use Rattle.samples.specs.Samples.{loudest}
 use Rattle.rule.specs.Calls.{block}
 use Rattle.rule.specs.State.{blockAfter, blockOut}
-use Rattle.parts.specs.Struct.{voiceOf, stateOf}
+use Rattle.voice.specs.Struct.{voiceOf, stateOf}
 use Rattle.block.proofs.Blocks.{differ, too-loud, plays, refused-on}
 use Rattle.block.proofs.Blocks.{refused-lent, block-on, block-lent}
 use Rattle.block.proofs.block.Statement.{statement}

@@ -2,7 +2,7 @@
 -- Assumes nothing.
 use borrow.Author.Needs.{needs}
 use Rattle.rule.specs.Calls.{announce, number}
-use Rattle.parts.proofs.Called.{called-refused}
+use Rattle.voice.proofs.Called.{called-refused}
 use Rattle.change.proofs.Changes.{changes-now, changes-later}
 use Rattle.change.proofs.announce.Statement.{statement}
 use Rattle.change.proofs.announce.Tie as tie

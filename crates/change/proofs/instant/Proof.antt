@@ -2,8 +2,8 @@
 -- Assumes nothing.
 use borrow.Author.Needs.{needs}
 use Rattle.rule.specs.Calls.{instant, number}
-use Rattle.parts.specs.Struct.{voiceOf}
-use Rattle.parts.proofs.Called.{called-refused, on}
+use Rattle.voice.specs.Struct.{voiceOf}
+use Rattle.voice.proofs.Called.{called-refused, on}
 use Rattle.change.proofs.Changes.{changes-instantly, count-refused, count-accepted}
 use Rattle.change.proofs.instant.Statement.{statement}
 use Rattle.change.proofs.instant.Tie as tie

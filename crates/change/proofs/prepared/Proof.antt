@@ -9,10 +9,10 @@ use Rattle.line.specs.Ring.{ring}
 use Rattle.rule.specs.Voice.{A}
 use Rattle.rule.specs.Calls.{window}
 use Rattle.rule.specs.State.{back}
-use Rattle.parts.specs.declared.Tuning.{Tuning}
-use Rattle.parts.specs.Struct.{tuningOf, filterOf}
-use Rattle.parts.specs.Valid.{Tuned}
-use Rattle.parts.proofs.Within.{read-within}
+use Rattle.voice.specs.declared.Tuning.{Tuning}
+use Rattle.voice.specs.Struct.{tuningOf, filterOf}
+use Rattle.voice.specs.Valid.{Tuned}
+use Rattle.voice.proofs.Within.{read-within}
 use Rattle.change.proofs.Windows.{window-run}
 use Rattle.change.proofs.prepared.Statement.{statement}
 use Rattle.change.proofs.prepared.Tie as tie

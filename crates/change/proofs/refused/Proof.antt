@@ -7,9 +7,9 @@ use Rattle.refusal.specs.Limits.{refusal}
 use Rattle.refusal.specs.Orders.{delay}
 use Rattle.rule.specs.Calls.{changeLimits}
 use Rattle.rule.specs.Tests.{long}
-use Rattle.parts.specs.Struct.{voiceOf}
+use Rattle.voice.specs.Struct.{voiceOf}
 use Rattle.refusal.proofs.Returned.{passed}
-use Rattle.parts.proofs.Tunes.{change-tunes}
+use Rattle.voice.proofs.Tunes.{change-tunes}
 use Rattle.change.proofs.refused.Statement.{statement}
 use Rattle.change.proofs.refused.Tie as tie
 

@@ -5,7 +5,7 @@ use Prim.Native.Nat.{_+_, _≤_}
 use borrow.Author.Needs.{needs}
 use lib.ListN.{length}
 use lib.Seq.{length-take-le}
-use Rattle.parts.specs.Valid.{Valid}
+use Rattle.voice.specs.Valid.{Valid}
 use Rattle.console.proofs.lines.Statement.{statement}
 use Rattle.console.proofs.lines.Tie as tie
 

@@ -1,6 +1,6 @@
 -- `follow::act` meets its contract: three parts, one after the other.
 -- Assumes nothing.
-use Rattle.parts.specs.Struct.{stateOf}
+use Rattle.voice.specs.Struct.{stateOf}
 use Rattle.follow.specs.Follow.{lossCalls, changeCalls, pluckCalls, then, actCalls}
 use Rattle.follow.specs.Does.{Does}
 use Rattle.follow.proofs.Following.{does-stops, does-then}

@@ -8,9 +8,9 @@ use native.Mathlib.Omega.{arith}
 use lib.Dec.{eqb}
 use lib.IntN.{ℤ}
 use Rattle.rule.specs.State.{State}
-use Rattle.parts.specs.declared.Head.{Head}
-use Rattle.parts.specs.Struct.{stateOf}
-use Rattle.parts.proofs.Called.{on}
+use Rattle.voice.specs.declared.Head.{Head}
+use Rattle.voice.specs.Struct.{stateOf}
+use Rattle.voice.proofs.Called.{on}
 use Rattle.follow.specs.Follow as Run
 use Rattle.follow.proofs.Following.{part-none, part-one, announced, at-once, on-as}
 use borrow.Author.Needs.{needs}

@@ -8,7 +8,7 @@ use lib.ListN.{length, replicate}
 use Rattle.integer.specs.Rounding.{M}
 use Rattle.samples.specs.Samples.{loudest}
 use Rattle.rule.specs.State.{blockOut}
-use Rattle.parts.specs.Struct.{stateOf}
+use Rattle.voice.specs.Struct.{stateOf}
 use Rattle.follow.specs.Follow.{waitCalls, actCalls, recordCalls}
 use Rattle.follow.proofs.Following.{does-then}
 use Rattle.follow.proofs.Waits.{zeros-quiet, wait-does, record-puts}

@@ -2,7 +2,7 @@
 -- Assumes nothing.
 use mathlib.Core.Path.{sym, _∙_}
 use Rattle.rule.specs.Calls.{loss}
-use Rattle.parts.proofs.Called.{on}
+use Rattle.voice.proofs.Called.{on}
 use Rattle.follow.specs.Follow.{value, stands}
 use Rattle.follow.proofs.Following.{part-none, part-one}
 use borrow.Author.Needs.{needs}

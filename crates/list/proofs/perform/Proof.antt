@@ -5,7 +5,7 @@ use mathlib.Core.Bool.{true}
 use borrow.Author.Needs.{needs}
 use lib.ListN.{length}
 use Rattle.rule.specs.Calls.{Opening}
-use Rattle.parts.specs.Struct.{stateOf}
+use Rattle.voice.specs.Struct.{stateOf}
 use Rattle.list.specs.Words.{formed}
 use Rattle.list.proofs.Whole.{unformed, done}
 use Rattle.list.proofs.perform.Statement.{statement}

@@ -3,9 +3,9 @@
 use mathlib.Core.Path.{sym, subst}
 use lib.ListN.{length}
 use borrow.Author.Needs.{needs}
-use Rattle.parts.specs.declared.Head.{Head}
-use Rattle.parts.specs.Struct.{stateOf}
-use Rattle.parts.specs.Valid.{Valid}
+use Rattle.voice.specs.declared.Head.{Head}
+use Rattle.voice.specs.Struct.{stateOf}
+use Rattle.voice.specs.Valid.{Valid}
 use Rattle.loops.specs.Rendered.{Rendered}
 use Rattle.loops.proofs.ahead.Statement.{statement}
 use Rattle.loops.proofs.ahead.Tie as tie

@@ -8,13 +8,13 @@ use lib.IntN.{natAbs}
 use lib.ListN.{length}
 use Rattle.integer.specs.Rounding.{M}
 use Rattle.rule.specs.State.{State, back}
-use Rattle.parts.specs.declared.Filter.{Filter}
-use Rattle.parts.specs.declared.Waiting.{Waiting}
-use Rattle.parts.specs.declared.Waiting.the-variants.{Announced}
-use Rattle.parts.specs.declared.Head.{Head}
-use Rattle.parts.specs.Struct.{withOf, stateOf}
-use Rattle.parts.specs.Valid.{Tuned, Waits, Waiting-valid, Valid}
-use Rattle.parts.proofs.Within.{read-within}
+use Rattle.voice.specs.declared.Filter.{Filter}
+use Rattle.voice.specs.declared.Waiting.{Waiting}
+use Rattle.voice.specs.declared.Waiting.the-variants.{Announced}
+use Rattle.voice.specs.declared.Head.{Head}
+use Rattle.voice.specs.Struct.{withOf, stateOf}
+use Rattle.voice.specs.Valid.{Tuned, Waits, Waiting-valid, Valid}
+use Rattle.voice.proofs.Within.{read-within}
 use Rattle.line.specs.Ring.{ring}
 use Rattle.step.specs.Sample.{Moved}
 use Rattle.loops.specs.Carried.{anewOf, carriedOf, dueOf}

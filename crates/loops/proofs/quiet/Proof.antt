@@ -7,10 +7,10 @@ use borrow.Author.Needs.{needs}
 use lib.IntN.{natAbs}
 use lib.ListN.{length}
 use Rattle.integer.specs.Rounding.{M}
-use Rattle.parts.specs.declared.Filter.{Filter}
-use Rattle.parts.specs.declared.Head.{Head}
-use Rattle.parts.specs.Struct.{stateOf}
-use Rattle.parts.specs.Valid.{Tuned}
+use Rattle.voice.specs.declared.Filter.{Filter}
+use Rattle.voice.specs.declared.Head.{Head}
+use Rattle.voice.specs.Struct.{stateOf}
+use Rattle.voice.specs.Valid.{Tuned}
 use Rattle.loops.specs.Carried.{anewOf, carriedOf}
 use Rattle.loops.proofs.Passes.{Reached, started, reads, more, ended}
 use Rattle.loops.proofs.Carrying.{as-anew, anew-self, carried-self, quiet-steps}

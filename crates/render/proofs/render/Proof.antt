@@ -10,8 +10,8 @@ use borrow.Rule.Slice.PartMut.{putMid}
 use lib.IntN.{ℤ}
 use lib.ListN.{length, take, drop, length-drop}
 use Rattle.rule.specs.State.{State}
-use Rattle.parts.specs.Struct.{stateOf}
-use Rattle.parts.specs.Valid.{Valid}
+use Rattle.voice.specs.Struct.{stateOf}
+use Rattle.voice.specs.Valid.{Valid}
 use Rattle.loops.specs.Rendered.{Rendered}
 use Rattle.loops.proofs.Rendered.{begun, all-after, all-out}
 use Rattle.render.proofs.Joined.{back, rendered-then}

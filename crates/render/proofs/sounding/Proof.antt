@@ -8,7 +8,7 @@ use lib.IntN.{pos}
 use lib.ListN.{length, getD}
 use Rattle.integer.specs.Rounding.{M}
 use Rattle.rule.specs.State.{step}
-use Rattle.parts.specs.Struct.{stateOf}
+use Rattle.voice.specs.Struct.{stateOf}
 use Rattle.loops.proofs.Passes.{Reached, started, reads, more}
 use Rattle.render.proofs.sounding.Statement.{statement}
 use Rattle.render.proofs.sounding.Tie as tie

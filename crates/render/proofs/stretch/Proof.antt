@@ -5,9 +5,9 @@ use Prim.Native.Nat.{_-_}
 use native.Mathlib.Omega.{arith}
 use borrow.Author.Needs.{needs}
 use lib.Seq.{length-take-le}
-use Rattle.parts.specs.declared.Waiting.{Waiting}
-use Rattle.parts.specs.declared.Head.{Head}
-use Rattle.parts.specs.Valid.{Waits, Waiting-valid}
+use Rattle.voice.specs.declared.Waiting.{Waiting}
+use Rattle.voice.specs.declared.Head.{Head}
+use Rattle.voice.specs.Valid.{Waits, Waiting-valid}
 use Rattle.render.proofs.Joined.{loudest-take, rendered-first}
 use Rattle.render.proofs.stretch.Statement.{statement}
 use Rattle.render.proofs.stretch.Tie as tie

@@ -10,8 +10,8 @@ use lib.IntN.{ℤ}
 use lib.ListN.{length}
 use Rattle.refusal.specs.Limits.{refusal}
 use Rattle.rule.specs.State.{State, from, puts}
-use Rattle.parts.specs.Struct.{stateOf}
-use Rattle.parts.specs.Valid.{Valid}
+use Rattle.voice.specs.Struct.{stateOf}
+use Rattle.voice.specs.Valid.{Valid}
 use Rattle.record.specs.Record.{recordLimits, fields}
 use Rattle.follow.specs.Follow.{value, result, recordCalls}
 use Rattle.score.specs.Run.{fits, playLimits}

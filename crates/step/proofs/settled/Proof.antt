@@ -5,9 +5,9 @@ use Prim.Native.Nat.{_+_, _≤_}
 use native.Mathlib.Omega.{arith}
 use borrow.Author.Needs.{needs}
 use lib.IntN.{ℤ}
-use Rattle.parts.specs.declared.Waiting.{Waiting}
-use Rattle.parts.specs.declared.Head.{Head}
-use Rattle.parts.specs.Valid.{Waits, Waiting-valid}
+use Rattle.voice.specs.declared.Waiting.{Waiting}
+use Rattle.voice.specs.declared.Head.{Head}
+use Rattle.voice.specs.Valid.{Waits, Waiting-valid}
 use Rattle.step.specs.Sample.{Settles}
 use Rattle.step.proofs.Settles.{settles-idle, settles-now, settles-later}
 use Rattle.step.proofs.settled.Statement.{statement}

@@ -5,7 +5,7 @@ use native.Mathlib.Omega.{arith}
 use borrow.Author.Needs.{needs}
 use Rattle.rule.specs.State.{back}
 use Rattle.line.specs.Ring.{ring}
-use Rattle.parts.proofs.Within.{read-within}
+use Rattle.voice.proofs.Within.{read-within}
 use Rattle.step.proofs.Steps.{preview-within, reads, heard-fit, heard-waiting, steps}
 use Rattle.step.proofs.step.Statement.{statement}
 use Rattle.step.proofs.step.Tie as tie

@@ -2,8 +2,8 @@
 -- Assumes nothing.
 use mathlib.Core.Path.{sym, subst}
 use borrow.Author.Needs.{needs}
-use Rattle.parts.specs.Valid.{Valid}
-use Rattle.parts.specs.declared.Head.{Head}
+use Rattle.voice.specs.Valid.{Valid}
+use Rattle.voice.specs.declared.Head.{Head}
 use Rattle.console.proofs.calls.call.Statement.{statement}
 use Rattle.console.proofs.calls.call.Tie as tie
 

@@ -1,7 +1,7 @@
 -- `console::calls::set` meets its contract: a call leaves a valid voice on whatever line.
 -- Assumes nothing.
 use borrow.Author.Needs.{needs}
-use Rattle.parts.proofs.Called.{on}
+use Rattle.voice.proofs.Called.{on}
 use Rattle.console.proofs.calls.set.Statement.{statement}
 use Rattle.console.proofs.calls.set.Tie as tie
 

@@ -8,8 +8,8 @@ use lib.ListN.{length, take}
 use lib.Seq.{length-take-le}
 use Rattle.rule.specs.Calls.{Call, block}
 use Rattle.rule.specs.State.{put}
-use Rattle.parts.specs.Struct.{stateOf}
-use Rattle.parts.specs.Called.{On}
+use Rattle.voice.specs.Struct.{stateOf}
+use Rattle.voice.specs.Called.{On}
 use Rattle.list.specs.declared.words.Item.{Item}
 use Rattle.list.specs.Words.{called, takes, lends}
 use Rattle.list.specs.Performed.{over}

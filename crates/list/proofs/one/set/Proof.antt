@@ -6,9 +6,9 @@ use Prim.Native.Nat.{ℕ}
 use native.Mathlib.Omega.{arith}
 use borrow.Author.Needs.{needs}
 use lib.IntN.{ℤ}
-use Rattle.parts.specs.declared.Answer.{Answer}
-use Rattle.parts.specs.Called.{On}
-use Rattle.parts.proofs.Called.{on}
+use Rattle.voice.specs.declared.Answer.{Answer}
+use Rattle.voice.specs.Called.{On}
+use Rattle.voice.proofs.Called.{on}
 use Rattle.list.specs.Words.{called}
 use Rattle.list.proofs.one.set.Statement.{statement}
 use Rattle.list.proofs.one.set.Tie as tie

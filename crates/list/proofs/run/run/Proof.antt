@@ -6,7 +6,7 @@ use borrow.Author.Needs.{needs}
 use borrow.Rule.Slice.PartAt.{part-to-end}
 use lib.Dec.{eqb}
 use Rattle.render.proofs.Joined.{back}
-use Rattle.parts.specs.Struct.{stateOf}
+use Rattle.voice.specs.Struct.{stateOf}
 use Rattle.list.proofs.Running.{begun, room, out-long, nums-long}
 use Rattle.list.proofs.Running.{all-out, all-written, all-numbers}
 use Rattle.list.proofs.Turn.{at-most, called-next}

@@ -9,7 +9,7 @@ use borrow.Author.Needs.{needs}
 use Rattle.integer.specs.Rounding.{M, clip}
 use Rattle.integer.proofs.Rounding.{clip-abs}
 use Rattle.line.specs.Ring.{ring}
-use Rattle.parts.proofs.Within.{read-within}
+use Rattle.voice.proofs.Within.{read-within}
 use Rattle.step.specs.Sample.{Hears}
 use Rattle.step.proofs.feedback.circulate.Statement.{statement}
 use Rattle.step.proofs.feedback.circulate.Tie as tie

@@ -10,8 +10,8 @@ use Rattle.noise.specs.Noise.{next, value}
 use Rattle.noise.specs.declared.Drawn.{Drawn}
 use Rattle.noise.proofs.Sizes.{next-size, value-size}
 use Rattle.rule.specs.Voice.{noise, spent}
-use Rattle.parts.specs.declared.Pluck.{Pluck}
-use Rattle.parts.specs.Struct.{pluckOf}
+use Rattle.voice.specs.declared.Pluck.{Pluck}
+use Rattle.voice.specs.Struct.{pluckOf}
 use Rattle.step.proofs.Silent.{sounds-none}
 use Rattle.step.proofs.sound.sound.Statement.{statement}
 use Rattle.step.proofs.sound.sound.Tie as tie

@@ -1,3 +1,0 @@
-pub mod Struct
-pub mod Valid
-pub mod Called
