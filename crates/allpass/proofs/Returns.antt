@@ -15,9 +15,9 @@ use Rattle.refusal.specs.Orders.{Takes}
 use Rattle.refusal.specs.Ranges.{order-1, order-2, OrderDelay}
 use Rattle.refusal.proofs.Ranges.{ranges, order-delay}
 use Rattle.thiran.specs.Coefficients.{coefficient, coefficients}
-use Rattle.thiran.specs.Answers.{limits, answer}
-use Rattle.thiran.specs.declared.Answer.{Answer}
-use Rattle.thiran.proofs.Refusals.{takes-0, answer-taken}
+use Rattle.thiran.specs.Answers.{limits, design}
+use Rattle.thiran.specs.declared.Design.{Design}
+use Rattle.thiran.proofs.Refusals.{takes-0, design-taken}
 use Rattle.allpass.specs.Allpass.{inner, next, inners}
 use Rattle.allpass.specs.Length.{response, above, effectiveLength}
 use Rattle.allpass.specs.Returns.{Exceed, none, exceeds, within, fades, values, Returns}
@@ -119,22 +119,22 @@ exceed N d t ws k e =
     subst (λ (n : ℕ). Exceed t ws n) c (counted t ws)
 
 module _ (d t : ℕ) where
-  first : Between 2049 d 6144 → Exceed t (values (answer 1 d .a1) (pos 0)) (effectiveLength 1 d t .count)
+  first : Between 2049 d 6144 → Exceed t (values (design 1 d .a1) (pos 0)) (effectiveLength 1 d t .count)
   unfolding coefficients
   first b =
       let k = ranges .takes 1 d .1 (order-1 b) in
-      exceed 1 d t (values (answer 1 d .a1) (pos 0)) k
+      exceed 1 d t (values (design 1 d .a1) (pos 0)) k
       (response-1 (coefficient 1 d 1)
-      ∙ ap (λ (r : Answer). values (r .a1) (pos 0)) (sym (answer-taken 1 d k)))
+      ∙ ap (λ (r : Design). values (r .a1) (pos 0)) (sym (design-taken 1 d k)))
 
   second : Between 6145 d 10240
-      → Exceed t (values (answer 2 d .a1) (answer 2 d .a2)) (effectiveLength 2 d t .count)
+      → Exceed t (values (design 2 d .a1) (design 2 d .a2)) (effectiveLength 2 d t .count)
   unfolding coefficients
   second b =
       let k = ranges .takes 2 d .1 (order-2 b) in
-      exceed 2 d t (values (answer 2 d .a1) (answer 2 d .a2)) k
+      exceed 2 d t (values (design 2 d .a1) (design 2 d .a2)) k
       (response-2 (coefficient 2 d 1) (coefficient 2 d 2)
-      ∙ ap (λ (r : Answer). values (r .a1) (r .a2)) (sym (answer-taken 2 d k)))
+      ∙ ap (λ (r : Design). values (r .a1) (r .a2)) (sym (design-taken 2 d k)))
 
 pub returns : Returns
 returns = record {

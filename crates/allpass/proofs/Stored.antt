@@ -2,68 +2,88 @@
 -- sums over both of the struct's numbers, and a filter that is fed. Assumes nothing.
 use mathlib.Core.Path.{_≡_, refl, sym, ap, subst, _∙_}
 use mathlib.Core.List.{List, [], _∷_}
-use Prim.Native.Nat.{ℕ, zero, suc, _≤_}
+use Prim.Native.Nat.{ℕ, zero, suc, _+_, _≤_}
 use native.Mathlib.Omega.{arith}
-use lib.IntN.{ℤ, pos, natAbs, zero-*ℤ, *ℤ-zero}
-use lib.ListN.{length, take, getD, length-take, length-replicate}
+use lib.IntN.{ℤ, pos, natAbs, _+ℤ_, _*ℤ_, zero-*ℤ, *ℤ-zero}
+use lib.ListN.{length, take, length-take, length-replicate}
 use Rattle.integer.specs.Rounding.{M}
 use Rattle.refusal.specs.Orders.{orders}
 use Rattle.thiran.specs.Coefficients.{norm}
-use Rattle.thiran.specs.Answers.{padded, taps}
+use Rattle.thiran.specs.Answers.{padded, listed, taps}
 use Rattle.thiran.specs.declared.formula.Coefficients.{Coefficients}
 use Rattle.allpass.specs.Allpass.{dot, rest, inner, next}
 use Rattle.allpass.specs.Bounds.{Within, none, more}
-use Rattle.allpass.specs.Stored.{stored, held, Fed}
+use Rattle.allpass.specs.Stored.{stored, entries, held, Fed}
 use Rattle.allpass.specs.declared.State.{State}
 use Rattle.allpass.proofs.Bounds.{next-within, length-next, rest-within}
 
--- ---- a list with 0 past its end
-abbrev pub both : List ℤ → List ℤ
-both v = getD v 0 (pos 0) ∷ getD v 1 (pos 0) ∷ []
+-- ---- the first n numbers of a list, with 0 past its end
+abbrev pub pad : ℕ → List ℤ → List ℤ
+pad zero v = []
+pad (suc n) [] = pos 0 ∷ pad n []
+pad (suc n) (x ∷ v) = x ∷ pad n v
 
-take-both : (v : List ℤ) → length v ≤ orders → take (length v) (both v) ≡ v
-take-both [] h = refl
-take-both (x ∷ []) h = refl
-take-both (x ∷ y ∷ []) h = refl
-take-both (x ∷ y ∷ z ∷ v) h = absurd (omega arith)
+take-pad : (n : ℕ) (v : List ℤ) → length v ≤ n → take (length v) (pad n v) ≡ v
+take-pad n [] h = refl
+take-pad zero (x ∷ v) h = absurd (omega arith)
+take-pad (suc n) (x ∷ v) h = ap (λ (u : List ℤ). x ∷ u) (take-pad n v (omega arith))
 
-take-of : (N : ℕ) (v : List ℤ) → length v ≡ N → N ≤ orders → take N (both v) ≡ v
-take-of N v e h = rw (← e) (take-both v (omega arith))
+norm-zeros : (n : ℕ) → norm (pad n []) ≡ 0
+norm-zeros zero = refl
+norm-zeros (suc n) = omega (arith, norm-zeros n)
 
-pub norm-both : (A : List ℤ) → length A ≤ orders → norm (both A) ≡ norm A
-norm-both [] h = refl
-norm-both (x ∷ []) h = omega arith
-norm-both (x ∷ y ∷ []) h = refl
-norm-both (x ∷ y ∷ z ∷ A) h = absurd (omega arith)
+norm-pad : (n : ℕ) (A : List ℤ) → length A ≤ n → norm (pad n A) ≡ norm A
+norm-pad n [] h = norm-zeros n
+norm-pad zero (x ∷ A) h = absurd (omega arith)
+norm-pad (suc n) (x ∷ A) h = ap (λ (k : ℕ). natAbs x + k) (norm-pad n A (omega arith))
 
-pub within-both : {v : List ℤ} {B : ℕ} → Within B v → Within B (both v)
-within-both none = more {x = pos 0} (omega arith) (more {x = pos 0} (omega arith) none)
-within-both (more p none) = more p (more {x = pos 0} (omega arith) none)
-within-both (more p (more q h)) = more p (more q none)
+within-pad : (n : ℕ) {v : List ℤ} {B : ℕ} → Within B v → Within B (pad n v)
+within-pad zero h = none
+within-pad (suc n) none = more {x = pos 0} (omega arith) (within-pad n none)
+within-pad (suc n) (more p h) = more p (within-pad n h)
 
 -- the products past either list are 0
-pub dot-both : (A v : List ℤ) → length A ≤ orders → dot (both A) (both v) ≡ dot A v
-dot-both [] v h = simp zero-*ℤ
-dot-both (a ∷ A) [] h = simp *ℤ-zero
-dot-both (a ∷ []) (x ∷ v) h = simp zero-*ℤ
-dot-both (a ∷ b ∷ []) (x ∷ []) h = simp *ℤ-zero
-dot-both (a ∷ b ∷ []) (x ∷ y ∷ v) h = refl
-dot-both (a ∷ b ∷ c ∷ A) (x ∷ v) h = absurd (omega arith)
+dot-zeros : (n : ℕ) (A : List ℤ) → dot (pad n A) (pad n []) ≡ pos 0
+dot-zeros zero A = refl
+dot-zeros (suc n) [] = rw (dot-zeros n [])
+dot-zeros (suc n) (a ∷ A) = rw (dot-zeros n A, *ℤ-zero a)
 
--- ---- what is read back of a struct
+dot-pad : (n : ℕ) (A v : List ℤ) → length A ≤ n → dot (pad n A) (pad n v) ≡ dot A v
+dot-pad zero [] v h = refl
+dot-pad zero (a ∷ A) v h = absurd (omega arith)
+dot-pad (suc n) [] [] h = rw (dot-zeros n [])
+dot-pad (suc n) [] (x ∷ v) h = rw (dot-pad n [] v (omega arith), zero-*ℤ x)
+dot-pad (suc n) (a ∷ A) [] h = rw (dot-zeros n A, *ℤ-zero a)
+dot-pad (suc n) (a ∷ A) (x ∷ v) h = ap (λ (z : ℤ). a *ℤ x +ℤ z) (dot-pad n A v (omega arith))
+
+-- ---- a struct that holds a list holds it with 0 past its end
+listed-padded : (A : List ℤ) → listed (padded A) ≡ pad orders A
+unfolding padded
+listed-padded [] = refl
+listed-padded (x ∷ []) = refl
+listed-padded (x ∷ y ∷ A) = refl
+
+entries-stored : (v : List ℤ) → entries (stored v) ≡ pad orders v
+unfolding stored
+entries-stored [] = refl
+entries-stored (x ∷ []) = refl
+entries-stored (x ∷ y ∷ v) = refl
+
+-- ---- what is read back of it
 pub length-taps : (N : ℕ) (c : Coefficients) → N ≤ orders → length (taps N c) ≡ N
-length-taps N c h = omega (arith, length-take N (c .a1 ∷ c .a2 ∷ []))
+length-taps N c h = omega (arith, length-take N (listed c))
 
 pub length-held : (N : ℕ) (v : State) → N ≤ orders → length (held N v) ≡ N
-length-held N v h = omega (arith, length-take N (v .v1 ∷ v .v2 ∷ []))
+length-held N v h = omega (arith, length-take N (entries v))
+
+take-of : (N : ℕ) (v : List ℤ) → length v ≡ N → N ≤ orders → take N (pad orders v) ≡ v
+take-of N v e h = rw (← e) (take-pad orders v (omega arith))
 
 pub taps-padded : (N : ℕ) (A : List ℤ) → length A ≡ N → N ≤ orders → taps N (padded A) ≡ A
-unfolding padded
-taps-padded N A e h = take-of N A e h
+taps-padded N A e h = ap (λ (u : List ℤ). take N u) (listed-padded A) ∙ take-of N A e h
 
 pub held-stored : (N : ℕ) (v : List ℤ) → length v ≡ N → N ≤ orders → held N (stored v) ≡ v
-unfolding stored
-held-stored N v e h = take-of N v e h
+held-stored N v e h = ap (λ (u : List ℤ). take N u) (entries-stored v) ∙ take-of N v e h
 
 -- the first number of the next state is w
 pub first-next : (A v : List ℤ) (f : ℤ) → 1 ≤ length v → stored (next A v f) .v1 ≡ inner A v f
@@ -71,25 +91,24 @@ unfolding stored next
 first-next A [] f h = absurd (omega arith)
 first-next A (x ∷ v) f h = refl
 
--- ---- both numbers of a struct that holds a list
-taps-both : (c : Coefficients) (A : List ℤ) → c ≡ padded A → c .a1 ∷ c .a2 ∷ [] ≡ both A
-unfolding padded
-taps-both c A e = ap (λ (c : Coefficients). c .a1 ∷ c .a2 ∷ []) e
+-- ---- sums over all numbers of a struct that holds a list
+module _ (c : Coefficients) (A : List ℤ) (e : c ≡ padded A) where
+  listed-is : listed c ≡ pad orders A
+  listed-is = ap listed e ∙ listed-padded A
 
-held-both : (s : State) (v : List ℤ) → s ≡ stored v → s .v1 ∷ s .v2 ∷ [] ≡ both v
-unfolding stored
-held-both s v e = ap (λ (s : State). s .v1 ∷ s .v2 ∷ []) e
+  pub norm-all : length A ≤ orders → norm (listed c) ≡ norm A
+  norm-all h = ap norm listed-is ∙ norm-pad orders A h
 
-pub norm-all : (c : Coefficients) (A : List ℤ) → c ≡ padded A → length A ≤ orders
-    → norm (c .a1 ∷ c .a2 ∷ []) ≡ norm A
-norm-all c A e h = ap norm (taps-both c A e) ∙ norm-both A h
+module _ (s : State) (v : List ℤ) (e : s ≡ stored v) where
+  entries-is : entries s ≡ pad orders v
+  entries-is = ap entries e ∙ entries-stored v
 
-pub within-all : (s : State) (v : List ℤ) {B : ℕ} → s ≡ stored v → Within B v → Within B (s .v1 ∷ s .v2 ∷ [])
-within-all s v {B} e h = subst (λ (u : List ℤ). Within B u) (sym (held-both s v e)) (within-both h)
+  pub within-all : {B : ℕ} → Within B v → Within B (entries s)
+  within-all {B} h = subst (λ (u : List ℤ). Within B u) (sym entries-is) (within-pad orders h)
 
 pub dot-all : (c : Coefficients) (s : State) (A v : List ℤ) → c ≡ padded A → s ≡ stored v → length A ≤ orders
-    → dot (c .a1 ∷ c .a2 ∷ []) (s .v1 ∷ s .v2 ∷ []) ≡ dot A v
-dot-all c s A v e i h = cc (taps-both c A e, held-both s v i, dot-both A v h)
+    → dot (listed c) (entries s) ≡ dot A v
+dot-all c s A v e i h = cc (listed-is c A e, entries-is s v i, dot-pad orders A v h)
 
 -- ---- a filter that is fed: its next state can be fed again
 module _ {N : ℕ} {c : Coefficients} {v : State} {f : ℤ} (h : Fed N c v f) where

@@ -8,7 +8,7 @@ use lib.ListN.{length}
 use Rattle.integer.specs.Rounding.{R}
 use Rattle.refusal.specs.Limits.{Between}
 use Rattle.refusal.specs.Ranges.{OrderDelay}
-use Rattle.thiran.specs.Answers.{answer}
+use Rattle.thiran.specs.Answers.{design}
 use Rattle.allpass.specs.Length.{effectiveLength}
 
 -- n of the values ws exceed t in magnitude
@@ -35,6 +35,6 @@ pub record Returns : Type 0 where
   pub refused : (N d t : ℕ) → (effectiveLength N d t .refusal ≡ 0 → ⊥) → effectiveLength N d t .count ≡ 0
   pub many : (a1 a2 : ℤ) → length (values a1 a2) ≡ 64
   pub order-1 : (d t : ℕ) → Between 2049 d 6144
-      → Exceed t (values (answer 1 d .a1) (pos 0)) (effectiveLength 1 d t .count)
+      → Exceed t (values (design 1 d .a1) (pos 0)) (effectiveLength 1 d t .count)
   pub order-2 : (d t : ℕ) → Between 6145 d 10240
-      → Exceed t (values (answer 2 d .a1) (answer 2 d .a2)) (effectiveLength 2 d t .count)
+      → Exceed t (values (design 2 d .a1) (design 2 d .a2)) (effectiveLength 2 d t .count)

@@ -17,9 +17,12 @@ use Rattle.allpass.specs.declared.State.{State}
 unfoldable pub stored : List ℤ → State
 stored v = record { v1 = getD v 0 (pos 0); v2 = getD v 1 (pos 0) }
 
--- the state of order N that a struct holds
+-- the numbers of the struct, and the state of order N that it holds
+abbrev pub entries : State → List ℤ
+entries v = v .v1 ∷ v .v2 ∷ []
+
 abbrev pub held : ℕ → State → List ℤ
-held N v = take N (v .v1 ∷ v .v2 ∷ [])
+held N v = take N (entries v)
 
 -- a filter of order N and a sample f that it can take
 pub record Fed (N : ℕ) (c : Coefficients) (v : State) (f : ℤ) : Type 0 where

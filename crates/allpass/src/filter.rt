@@ -1,16 +1,16 @@
 // One sample of the filter and of the eliminator. What differs by order is in `oldest`, `turned`, `shifted`.
 // A struct of coefficients or of a state holds 0 past the order, so that one sum of products serves both.
 ghost use mathlib.Core.Path.{_≡_};
-ghost use mathlib.Core.List.{[], _∷_, reverse};
+ghost use mathlib.Core.List.{reverse};
 ghost use Prim.Native.Nat.{_*_, _≤_};
 ghost use lib.IntN.{pos, _+ℤ_};
 ghost use Rattle.integer.specs.Rounding.{M, R, clip as Clip};
 ghost use Rattle.refusal.specs.Orders.{orders};
 ghost use Rattle.thiran.specs.Coefficients.{norm};
-ghost use Rattle.thiran.specs.Answers.{padded, taps};
+ghost use Rattle.thiran.specs.Answers.{padded, listed, taps};
 ghost use Rattle.allpass.specs.Allpass.{dot, final, shift, inner as Inner, next, out};
 ghost use Rattle.allpass.specs.Bounds.{Within};
-ghost use Rattle.allpass.specs.Stored.{stored, held, Fed};
+ghost use Rattle.allpass.specs.Stored.{stored, entries, held, Fed};
 use crate::State;
 use integer::Value;
 use integer::clip;
@@ -58,8 +58,8 @@ fn shifted(order: u32, v: State, w: Value) -> State
 
 // A1·v1 + A2·v2, rounded.
 fn weighed(c: Coefficients, v: State) -> Value
-    requires { ⌜ (norm (c .a1 ∷ c .a2 ∷ []) ≤ 32768) × Within (2 * M) (v .v1 ∷ v .v2 ∷ []) ⌝ }
-    ensures { λ r. ⌜ r .n ≡ R (dot (c .a1 ∷ c .a2 ∷ []) (v .v1 ∷ v .v2 ∷ [])) ⌝ }
+    requires { ⌜ (norm (listed c) ≤ 32768) × Within (2 * M) (entries v) ⌝ }
+    ensures { λ r. ⌜ r .n ≡ R (dot (listed c) (entries v)) ⌝ }
 {
     round_q16(Value {
         n: c.a1 * v.v1 + c.a2 * v.v2,

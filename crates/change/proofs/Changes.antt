@@ -1,11 +1,13 @@
 -- What an accepted change makes of a voice from a resting eliminator of its tuning, and what it counts.
 -- Assumes nothing.
 use mathlib.Core.Path.{_≡_, refl, sym, ap, _∙_}
+use mathlib.Core.Bool.{Bool, true, false, cond}
 use mathlib.Core.List.{List}
 use mathlib.Core.Option.{none, some}
 use Prim.Native.Nat.{ℕ}
 use native.Mathlib.Omega.{arith}
-use borrow.Author.Tests.{eq-eqb, ne-eqb}
+use borrow.Author.Tests.{eq-eqb, ne-eqb, eqb-true, eqb-false}
+use lib.Dec.{eqb}
 use lib.IntN.{ℤ}
 use Rattle.integer.specs.Rounding.{M}
 use Rattle.allpass.specs.Allpass as Allpass
@@ -20,8 +22,8 @@ use Rattle.voice.specs.declared.Tuning.{Tuning}
 use Rattle.voice.specs.declared.Filter.{Filter}
 use Rattle.voice.specs.declared.Waiting.the-variants.{Idle, Announced}
 use Rattle.voice.specs.declared.Head.{Head}
-use Rattle.voice.specs.Struct.{tuningOf, voiceOf, withOf}
-use Rattle.voice.specs.Valid.{Waits, Fit}
+use Rattle.voice.specs.Struct.{tuningOf, voiceOf, withOf, settledOf}
+use Rattle.voice.specs.Valid.{Preparing, Fit}
 use Rattle.step.specs.Sample.{Ran}
 use Rattle.voice.specs.Called.{Rests, Called, On}
 use Rattle.voice.proofs.Called.{voice-by, fit-as, called, called-on}
@@ -49,7 +51,7 @@ module _ (v : Voice) (L d : ℕ) where
 
 -- ---- in the structs of the code
 module _ {h : Head} {L d : ℕ} {e : Filter} (k : Fit h) (r : Rests (h .filter .tuning .order) L d e) where
-  pub changes-now : {n : ℕ} → n ≡ number (voiceOf h) (announce L d) → n ≡ 0 → h .advance ≡ 0
+  changes-now : {n : ℕ} → n ≡ number (voiceOf h) (announce L d) → n ≡ 0 → h .advance ≡ 0
       → Called h (announce L d) (record { refusal = 0; head = withOf h e Idle })
   unfolding done
   changes-now n z a =
@@ -58,15 +60,25 @@ module _ {h : Head} {L d : ℕ} {e : Filter} (k : Fit h) (r : Rests (h .filter .
       called h (announce L d) (withOf h e Idle) refl n z refl
       (fit-as k (r .tuned) (k .loss) tt (k .pluck)) (λ q. i ∙ sym j)
 
-  pub changes-later : {n : ℕ} → n ≡ number (voiceOf h) (announce L d) → n ≡ 0 → (h .advance ≡ 0 → ⊥)
+  changes-later : {n : ℕ} → n ≡ number (voiceOf h) (announce L d) → n ≡ 0 → (h .advance ≡ 0 → ⊥)
       → Called h (announce L d) (record { refusal = 0; head = withOf h (h .filter) (Announced e 0) })
   unfolding done
   changes-later n z f =
-      let w : Waits (h .filter .tuning .order) (h .advance) e 0
+      let w : Preparing (h .filter .tuning .order) (h .advance) e 0
       = record { tuned = r .tuned; same = ap (λ (t : Tuning). t .order) (r .tuning); fewer = omega arith } in
       let j = announced-later (voiceOf h) (to (voiceOf h) L d) f in
       called h (announce L d) (withOf h (h .filter) (Announced e 0)) refl n z refl
       (fit-as k (k .filter) (k .loss) w (k .pluck)) (λ q. cc (r .tuning, r .state, j))
+
+  pub changes-announced : {n : ℕ} → n ≡ number (voiceOf h) (announce L d) → n ≡ 0
+      → Called h (announce L d) (record { refusal = 0; head = settledOf h e 0 })
+  changes-announced n z = go (eqb 0 (h .advance)) refl
+    where
+      go : (b : Bool) → eqb 0 (h .advance) ≡ b
+          → Called h (announce L d)
+          (record { refusal = 0; head = cond b (withOf h e Idle) (withOf h (h .filter) (Announced e 0)) })
+      go true i = changes-now n z (sym (eqb-true 0 (h .advance) i))
+      go false i = changes-later n z (λ a. eqb-false 0 (h .advance) i (sym a))
 
   pub changes-instantly : {p : Filter} (l : List ℤ) → Within M (ring (h .at) l)
       → {n : ℕ} → n ≡ number (voiceOf h) (instant L d) → n ≡ 0

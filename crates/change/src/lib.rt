@@ -21,6 +21,7 @@ use voice::Filter;
 use voice::Head;
 use voice::Waiting;
 use voice::resting;
+use voice::settle;
 use voice::untuned;
 use voice::with;
 
@@ -63,16 +64,9 @@ pub fn announce(head: Head, length: u32, delay: u32) -> Answer
         };
     }
     let e = resting(head.filter.tuning.order, length, delay);
-    if head.advance == 0 {
-        return Answer {
-            refusal: 0,
-            head: with(head, e, Waiting::Idle),
-        };
-    }
-    let f = head.filter;
     Answer {
         refusal: 0,
-        head: with(head, f, Waiting::Announced(e, 0)),
+        head: settle(head, e, 0),
     }
 }
 

@@ -1,4 +1,5 @@
 pub mod View
 pub mod Ring
 pub mod Rounding
+mod Halves
 mod Quotient

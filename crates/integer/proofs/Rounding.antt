@@ -10,7 +10,7 @@ use lib.Signed.{_≤ℤ_, _<ℤ_}
 use Rattle.integer.specs.Parts.{up, dn}
 use Rattle.integer.proofs.View.{+v, -v, *v, negv, absv, near, onev, Zs}
 use Rattle.integer.proofs.Ring.{times, abs-*}
-use Rattle.integer.specs.Rounding.{floor, Nearest, nearest, R, M, clip}
+use Rattle.integer.specs.Rounding.{floor, Nearest, nearest, R, Q, M, clip}
 
 -- ---- floor: its two parts, m q ≤ u and u < m q + m
 pub floorv : (u : ℤ) (m : ℕ) → 0 < m
@@ -118,6 +118,13 @@ R-abs u B h = near (R u) (omega (arith, Rv u, absv u))
 -- numbers at most 32,768 E apart are rounded to numbers at most half of E apart, upward
 pub R-near : (u v : ℤ) (E : ℕ) → natAbs (u -ℤ v) ≤ 32768 * E → natAbs (R u -ℤ R v) ≤ (E + 1) / 2
 R-near u v E h = near (R u -ℤ R v) (omega (arith, Rv u, Rv v, -v u v, absv (u -ℤ v), -v (R u) (R v)))
+
+-- ---- Q
+pub Q-abs : (u : ℤ) (B : ℕ) → natAbs u ≤ 131072 * B → natAbs (Q u) ≤ B
+unfolding Q
+Q-abs u B h =
+    let s = u +ℤ pos 65536 in
+    near (Q u) (omega (arith, floorv s 131072 (omega arith), +v u (pos 65536), absv u))
 
 -- ---- clip
 pub clipv : (u : ℤ) → (up (clip u) ≡ min (up u) M) × (dn (clip u) ≡ min (dn u) M)

@@ -22,6 +22,10 @@ nearest p q = floor (pos 2 *ℤ p +ℤ pos q) (2 * q)
 unfoldable pub R : ℤ → ℤ
 R u = floor (u +ℤ pos 32768) 65536
 
+-- the division of the loop, document 01's "floor((u + 65,536)/131,072)" with u for G·(y(n) + y(n − 1))
+unfoldable pub Q : ℤ → ℤ
+Q u = floor (u +ℤ pos 65536) 131072
+
 -- "M = 8,388,607. A sample is a whole number from −M to M"
 abbrev pub M : ℕ
 M = 8388607

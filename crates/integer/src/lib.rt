@@ -3,7 +3,7 @@
 ghost use mathlib.Core.Path.{_≡_};
 ghost use Prim.Native.Nat.{_+_, _*_, _%_, _^_, _≤_, _<_};
 ghost use lib.IntN.{natAbs};
-ghost use Rattle.integer.specs.Rounding.{R, clip as Clip, floor, nearest as Nearest};
+ghost use Rattle.integer.specs.Rounding.{R, Q, clip as Clip, floor, nearest as Nearest};
 
 pub struct Value {
     pub n: i64,
@@ -56,8 +56,7 @@ pub fn round_q16(u: Value) -> Value
 }
 
 // u / 131,072 downward, one arithmetic shift like `floor_q16`.
-pub fn floor_q17(u: Value) -> Value
-    requires { ⌜ natAbs (u .n) ≤ 2 ^ 41 ⌝ }
+fn floor_q17(u: Value) -> Value
     ensures { λ r. ⌜ r .n ≡ floor (u .n) 131072 ⌝ }
 {
     let q = u.n / 131_072;
@@ -65,6 +64,14 @@ pub fn floor_q17(u: Value) -> Value
         return Value { n: q - 1 };
     }
     Value { n: q }
+}
+
+// Q(u), the division of the loop: u / 131,072 to the nearest, a half upward.
+pub fn round_q17(u: Value) -> Value
+    requires { ⌜ natAbs (u .n) ≤ 2 ^ 41 ⌝ }
+    ensures { λ r. ⌜ r .n ≡ Q (u .n) ⌝ }
+{
+    floor_q17(Value { n: u.n + 65_536 })
 }
 
 // p / q to the nearest, a half upward.

@@ -3,7 +3,7 @@
 ghost use mathlib.Core.Path.{_≡_};
 ghost use Prim.Native.Nat.{_≤_};
 ghost use lib.ListN.{length, drop};
-ghost use Rattle.thiran.specs.Answers.{answer};
+ghost use Rattle.thiran.specs.Answers.{design};
 ghost use Rattle.allpass.specs.Length.{effectiveLength};
 ghost use Rattle.pitch.specs.Pitch.{pitch};
 ghost use Rattle.noise.specs.Noise.{drawn};
@@ -13,7 +13,7 @@ ghost use Rattle.score.specs.Played.{Runs};
 // A1 and A2 of an order and a delay.
 #[no_mangle]
 pub extern "C" fn jivaszte_coefficients(order: u32, d: u32, a1: &mut i32, a2: &mut i32) -> u32
-    ensures { λ r. ⌜ record { refusal = r; a1 = now (a1 .exit); a2 = now (a2 .exit) } ≡ answer order d ⌝ }
+    ensures { λ r. ⌜ record { refusal = r; a1 = now (a1 .exit); a2 = now (a2 .exit) } ≡ design order d ⌝ }
 {
     let c = thiran::coefficients(order, d);
     let x = c.a1;

@@ -21,14 +21,14 @@ use Rattle.voice.specs.declared.Filter.{Filter}
 use Rattle.voice.specs.declared.Waiting.{Waiting}
 use Rattle.voice.specs.declared.Waiting.the-variants.{Idle, Announced}
 use Rattle.voice.specs.declared.Head.{Head}
-use Rattle.voice.specs.Struct.{withOf}
+use Rattle.voice.specs.Struct.{withOf, settledOf}
 use Rattle.voice.specs.Valid.{Tuned, Valid}
 use Rattle.step.specs.declared.feedback.Circulated.{Circulated}
 use Rattle.step.specs.Sample.{Moved, Settles, Circulates, Steps}
 use Rattle.step.proofs.Silent.{sounds-none}
-use Rattle.step.proofs.Settles.{settles-idle, settles-now, settles-later}
+use Rattle.step.proofs.Settles.{settles-idle, settles}
 use Rattle.step.proofs.Steps.{heard-fit, heard-waiting, steps}
-use Rattle.loops.specs.Carried.{anewOf, carriedOf, dueOf}
+use Rattle.loops.specs.Carried.{anewOf, carriedOf}
 
 -- ---- filters
 -- a filter of the same tuning is f with its state
@@ -68,33 +68,21 @@ module _ (h : Head) {f : Filter} {y : Value} {at : ℕ} {l : List ℤ} {x : ℤ}
   -- ---- with a change that waits
   module _ {e n : Filter} {t : ℕ} (m : Moved e (back (ring at l) (e .tuning .length)) n)
       (v : Valid (withOf (carriedOf h f y at) f (Announced e t)) l) where
-    settles : (b : Bool) → eqb (t + 1) (h .advance) ≡ b
-        → Settles (carriedOf h (r .filter) (r .y) (r .at)) (Announced e t)
-        (back (ring at l) (e .tuning .length))
-        (cond b (withOf (carriedOf h (r .filter) (r .y) (r .at)) n Idle)
-        (withOf (carriedOf h (r .filter) (r .y) (r .at)) (r .filter) (Announced n (t + 1))))
-    settles true i =
-        let o = sounds-none (v .fit .pluck) z in
-        settles-now (heard-fit v o c) (heard-waiting v o c) m (eqb→≡ (t + 1) (h .advance) i)
-    settles false i =
-        let o = sounds-none (v .fit .pluck) z in
-        settles-later (heard-fit v o c) (heard-waiting v o c) m
-        (λ j. absurd (false≢true (sym i ∙ eq-eqb (t + 1) (h .advance) j)))
-
     pub led-steps : Steps (withOf (carriedOf h f y at) f (Announced e t)) l x
-        (record { y = r .y; head = dueOf (carriedOf h (r .filter) (r .y) (r .at)) n (t + 1) }) k
+        (record { y = r .y; head = settledOf (carriedOf h (r .filter) (r .y) (r .at)) n (t + 1) }) k
     led-steps =
         let o = sounds-none (v .fit .pluck) z in
-        steps v o c {g = back (ring at l) (e .tuning .length)} refl (settles (eqb (t + 1) (h .advance)) refl)
+        steps v o c {g = back (ring at l) (e .tuning .length)} refl
+        (settles (heard-fit v o c) (heard-waiting v o c) m)
 
 -- ---- a change that waits
 pub due-later : (h : Head) (e : Filter) (k : ℕ) → k < h .advance
-    → dueOf h e k ≡ withOf h (h .filter) (Announced e k)
+    → settledOf h e k ≡ withOf h (h .filter) (Announced e k)
 due-later h e k i = rw (ne-eqb k (h .advance) (λ z. omega arith))
 
 pub due-self : {N : ℕ} {e : Filter} {t k : ℕ} (h : Head) → N ≡ h .filter .tuning .order → N ≡ e .tuning .order
     → h .waiting ≡ Announced e t → k ≡ t → t < h .advance
-    → dueOf (carriedOf h (anewOf N (h .filter) (h .filter .state)) (h .last) (h .at))
+    → settledOf (carriedOf h (anewOf N (h .filter) (h .filter .state)) (h .last) (h .at))
     (anewOf N e (e .state)) k ≡ h
 due-self {N} {e} {t} {k} h i j w z fewer =
     let f = anewOf N (h .filter) (h .filter .state) in
@@ -105,5 +93,5 @@ due-self {N} {e} {t} {k} h i j w z fewer =
     ∙ ap (λ (x : Waiting). withOf h (h .filter) x) (waits ∙ sym w)
 
 pub due-as : (h : Head) (y : Value) (at : ℕ) {f g d e : Filter} {t u : ℕ} → f ≡ g → d ≡ e → t ≡ u
-    → dueOf (carriedOf h f y at) d t ≡ dueOf (carriedOf h g y at) e u
+    → settledOf (carriedOf h f y at) d t ≡ settledOf (carriedOf h g y at) e u
 due-as h y at p q r = cc (p, q, r)

@@ -18,16 +18,16 @@ use Rattle.loops.specs.Rendered.{Rendered}
 use Rattle.loops.proofs.Rendered.{begun, sample, rendered}
 
 -- the head h and the line l are valid, and reached once i samples of the buffer are rendered
-abbrev pub Reached : List ℤ → State → List ℤ → Head → List ℤ → ℕ → Type 0
-Reached xs v b h l i = Rendered xs v b (stateOf h l) i × Valid h l
+abbrev pub Passed : List ℤ → State → List ℤ → Head → List ℤ → ℕ → Type 0
+Passed xs v b h l i = Rendered xs v b (stateOf h l) i × Valid h l
 
 pub started : {h k : Head} {l xs : List ℤ} → k ≡ h → loudest xs ≤ M → Valid h l
-    → Reached xs (stateOf h l) xs k l 0
+    → Passed xs (stateOf h l) xs k l 0
 started {h} {l} {xs} e q g =
-    subst (λ (k : Head). Reached xs (stateOf h l) xs k l 0) (sym e) (begun xs (stateOf h l) q, g)
+    subst (λ (k : Head). Passed xs (stateOf h l) xs k l 0) (sym e) (begun xs (stateOf h l) q, g)
 
 module _ {xs : List ℤ} {v : State} {b : List ℤ} {h : Head} {l : List ℤ} {i : ℕ}
-    (t : Reached xs v b h l i) where
+    (t : Passed xs v b h l i) where
   -- x is the sample that comes next
   module _ (o : i < length b) {x : ℤ} (e : x ≡ getD b i (pos 0)) where
     pub reads : natAbs x ≤ M
@@ -35,16 +35,16 @@ module _ {xs : List ℤ} {v : State} {b : List ℤ} {h : Head} {l : List ℤ} {i
 
     -- it is stepped, and its output stored in its place
     pub more : {r : Stepped} {m c : List ℤ} {k : Head} → Steps h l x r m → c ≡ set b i (r .y .n)
-        → r .head ≡ k → Reached xs v c k m (i + 1)
+        → r .head ≡ k → Passed xs v c k m (i + 1)
     more {r} {m} {c} s f j =
         let w = stateOf (r .head) m in
         let n = s .state ∙ ap (λ (x : ℤ). step (stateOf h l) x) e in
         let p = rendered xs v b (stateOf h l) i (t .0) o w (r .y .n) n (s .y) in
-        subst (λ (k : Head). Reached xs v c k m (i + 1)) j
+        subst (λ (k : Head). Passed xs v c k m (i + 1)) j
         (subst (λ (c : List ℤ). Rendered xs v c w (i + 1)) (sym f) p, s .valid)
 
-  pub ended : {k : Head} → length b ≤ i → k ≡ h → Reached xs v b k l (length xs)
+  pub ended : {k : Head} → length b ≤ i → k ≡ h → Passed xs v b k l (length xs)
   ended o e =
       let n : i ≡ length xs = omega (arith, t .0 .long, t .0 .within) in
-      subst (λ (k : Head). Reached xs v b k l (length xs)) (sym e)
-      (subst (λ (i : ℕ). Reached xs v b h l i) n t)
+      subst (λ (k : Head). Passed xs v b k l (length xs)) (sym e)
+      (subst (λ (i : ℕ). Passed xs v b h l i) n t)

@@ -1,14 +1,13 @@
 // What is kept of a voice in a loop over its samples, and the head that it makes.
 // A filter's order is passed beside it: a loop that is called with a number there is compiled for that order.
 ghost use mathlib.Core.Path.{_≡_};
-ghost use Rattle.loops.specs.Carried.{anewOf, carriedOf, dueOf};
+ghost use Rattle.loops.specs.Carried.{anewOf, carriedOf};
 use allpass::State;
 use integer::Value;
 use voice::Filter;
 use voice::Head;
 use voice::Tuning;
 use voice::Waiting;
-use voice::with;
 
 // f, in an order that is its own, with another state.
 pub fn anew(order: u32, f: Filter, v: State) -> Filter
@@ -41,15 +40,4 @@ pub fn carried(h: Head, f: Filter, last: Value, at: usize) -> Head
         pluck: p,
         at: at,
     }
-}
-
-// h with a change to the eliminator e, in force once it has taken as many samples as the advance.
-pub fn due(h: Head, e: Filter, taken: u32) -> Head
-    ensures { λ r. ⌜ r ≡ dueOf h e taken ⌝ }
-{
-    if taken == h.advance {
-        return with(h, e, Waiting::Idle);
-    }
-    let f = h.filter;
-    with(h, f, Waiting::Announced(e, taken))
 }

@@ -6,18 +6,17 @@ ghost use lib.ListN.{length};
 ghost use Rattle.integer.specs.Rounding.{M};
 ghost use Rattle.samples.specs.Samples.{loudest};
 ghost use Rattle.voice.specs.declared.Waiting.the-variants.{Idle, Announced};
-ghost use Rattle.voice.specs.Struct.{stateOf};
+ghost use Rattle.voice.specs.Struct.{stateOf, settledOf};
 ghost use Rattle.voice.specs.Valid.{Valid};
-ghost use Rattle.loops.specs.Carried.{dueOf};
 ghost use Rattle.loops.specs.Rendered.{Rendered};
 use crate::carried::anew;
 use crate::carried::carried;
-use crate::carried::due;
 use integer::Value;
 use step::feedback::circulate;
 use step::filter::moved;
 use voice::Filter;
 use voice::Head;
+use voice::settle;
 
 mod carried;
 
@@ -28,7 +27,7 @@ pub struct Beside {
 }
 
 // Renders the buffer while nothing waits.
-fn quiet(line: &mut [i32; 2112], order: u32, h: Head, buffer: &mut [i32]) -> Head
+fn idle(line: &mut [i32; 2112], order: u32, h: Head, buffer: &mut [i32]) -> Head
     requires { ⌜ Valid h (now line) × (loudest (now buffer) ≤ M) ⌝ }
     requires { ⌜ (order ≡ h .filter .tuning .order) × (h .waiting ≡ Idle) × (h .pluck .left ≡ 0) ⌝ }
     ensures { λ r. ⌜ Rendered (now (buffer .entry)) (stateOf h (now (line .entry))) (now (buffer .exit))
@@ -53,7 +52,7 @@ fn quiet(line: &mut [i32; 2112], order: u32, h: Head, buffer: &mut [i32]) -> Hea
 }
 
 // Renders the buffer while a change waits; its eliminator e, which took some samples, reads the line too.
-fn leading(
+fn waiting(
     line: &mut [i32; 2112],
     order: u32,
     h: Head,
@@ -66,9 +65,9 @@ fn leading(
     requires { ⌜ (order ≡ h .filter .tuning .order) × (h .waiting ≡ Announced e taken)
         × (h .pluck .left ≡ 0) ⌝ }
     ensures { λ r. ⌜ Rendered (now (buffer .entry)) (stateOf h (now (line .entry))) (now (buffer .exit))
-        (stateOf (dueOf (r .head) (r .next) (taken + length (now (buffer .entry)))) (now (line .exit)))
+        (stateOf (settledOf (r .head) (r .next) (taken + length (now (buffer .entry)))) (now (line .exit)))
         (length (now (buffer .entry))) ⌝ }
-    ensures { λ r. ⌜ Valid (dueOf (r .head) (r .next) (taken + length (now (buffer .entry))))
+    ensures { λ r. ⌜ Valid (settledOf (r .head) (r .next) (taken + length (now (buffer .entry))))
         (now (line .exit)) ⌝ }
 {
     let mut v = h.filter.state;
@@ -98,7 +97,7 @@ fn leading(
 }
 
 // Renders the buffer while nothing waits, by the loop of its order.
-pub fn steady(line: &mut [i32; 2112], h: Head, buffer: &mut [i32]) -> Head
+pub fn while_idle(line: &mut [i32; 2112], h: Head, buffer: &mut [i32]) -> Head
     requires { ⌜ Valid h (now line) × (loudest (now buffer) ≤ M) × (h .waiting ≡ Idle)
         × (h .pluck .left ≡ 0) ⌝ }
     ensures { λ r. ⌜ Rendered (now (buffer .entry)) (stateOf h (now (line .entry))) (now (buffer .exit))
@@ -106,30 +105,36 @@ pub fn steady(line: &mut [i32; 2112], h: Head, buffer: &mut [i32]) -> Head
     ensures { λ r. ⌜ Valid r (now (line .exit)) ⌝ }
 {
     if h.filter.tuning.order == 1 {
-        return quiet(line, 1, h, buffer);
+        return idle(line, 1, h, buffer);
     }
-    quiet(line, 2, h, buffer)
+    idle(line, 2, h, buffer)
 }
 
 // The same while a change waits, before it may be put in force.
-fn led(line: &mut [i32; 2112], h: Head, e: Filter, taken: u32, buffer: &mut [i32]) -> Beside
+fn by_order(line: &mut [i32; 2112], h: Head, e: Filter, taken: u32, buffer: &mut [i32]) -> Beside
     requires { ⌜ Valid h (now line) × (loudest (now buffer) ≤ M)
         × (taken + length (now buffer) ≤ h .advance) ⌝ }
     requires { ⌜ (h .waiting ≡ Announced e taken) × (h .pluck .left ≡ 0) ⌝ }
     ensures { λ r. ⌜ Rendered (now (buffer .entry)) (stateOf h (now (line .entry))) (now (buffer .exit))
-        (stateOf (dueOf (r .head) (r .next) (taken + length (now (buffer .entry)))) (now (line .exit)))
+        (stateOf (settledOf (r .head) (r .next) (taken + length (now (buffer .entry)))) (now (line .exit)))
         (length (now (buffer .entry))) ⌝ }
-    ensures { λ r. ⌜ Valid (dueOf (r .head) (r .next) (taken + length (now (buffer .entry))))
+    ensures { λ r. ⌜ Valid (settledOf (r .head) (r .next) (taken + length (now (buffer .entry))))
         (now (line .exit)) ⌝ }
 {
     if h.filter.tuning.order == 1 {
-        return leading(line, 1, h, e, taken, buffer);
+        return waiting(line, 1, h, e, taken, buffer);
     }
-    leading(line, 2, h, e, taken, buffer)
+    waiting(line, 2, h, e, taken, buffer)
 }
 
 // Renders the buffer while a change waits, which may take effect at its end.
-pub fn ahead(line: &mut [i32; 2112], h: Head, e: Filter, taken: u32, buffer: &mut [i32]) -> Head
+pub fn while_waiting(
+    line: &mut [i32; 2112],
+    h: Head,
+    e: Filter,
+    taken: u32,
+    buffer: &mut [i32],
+) -> Head
     requires { ⌜ Valid h (now line) × (loudest (now buffer) ≤ M)
         × (taken + length (now buffer) ≤ h .advance) ⌝ }
     requires { ⌜ (h .waiting ≡ Announced e taken) × (h .pluck .left ≡ 0) ⌝ }
@@ -138,8 +143,8 @@ pub fn ahead(line: &mut [i32; 2112], h: Head, e: Filter, taken: u32, buffer: &mu
     ensures { λ r. ⌜ Valid r (now (line .exit)) ⌝ }
 {
     let n = buffer.len();
-    let p = led(line, h, e, taken, buffer);
+    let p = by_order(line, h, e, taken, buffer);
     let head = p.head;
     let next = p.next;
-    due(head, next, taken + (n as u32))
+    settle(head, next, taken + (n as u32))
 }

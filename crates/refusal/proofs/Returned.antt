@@ -94,13 +94,13 @@ none-met (more {l} {ls} k ks) = past l ls (kept-is l k) (none-met ks)
 
 -- ---- each test's own number
 module _ (post : List Limit) (l : Limit) where
-  told : (pre : List Limit) → T (numbered (pre ++ l ∷ post)) → refusal (pre ++ l ∷ post) ≡ l .number
+  named : (pre : List Limit) → T (numbered (pre ++ l ∷ post)) → refusal (pre ++ l ∷ post) ≡ l .number
       → AllKept pre × (Kept l → ⊥)
-  told [] t e = (
+  named [] t e = (
     none,
     λ k. not-returned (l .number) post (above l post t) (lone l post t) (past l post (kept-is l k) refl ∙ e),
   )
-  told (k ∷ pre) t e = go (met k) refl (told pre (others k (pre ++ l ∷ post) t))
+  named (k ∷ pre) t e = go (met k) refl (named pre (others k (pre ++ l ∷ post) t))
     where
       go : (b : Bool) → met k ≡ b → (refusal (pre ++ l ∷ post) ≡ l .number → AllKept pre × (Kept l → ⊥))
           → AllKept (k ∷ pre) × (Kept l → ⊥)
@@ -119,7 +119,7 @@ module _ (post : List Limit) (l : Limit) where
 pub returned : (ls : List Limit) → T (numbered ls) → Returned ls
 returned ls t = record {
   refused = λ pre post l e. (
-    λ i. told post l pre (subst (λ (xs : List Limit). T (numbered xs)) e t) (ap refusal (sym e) ∙ i),
+    λ i. named post l pre (subst (λ (xs : List Limit). T (numbered xs)) e t) (ap refusal (sym e) ∙ i),
     λ p. ap refusal e ∙ sym (tells post l (p .0) (p .1)),
   );
   accepted = (passed ls t, λ ks. sym (none-met ks));

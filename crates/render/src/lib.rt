@@ -9,20 +9,20 @@ ghost use Rattle.rule.specs.State.{blockAfter, blockOut};
 ghost use Rattle.voice.specs.Struct.{stateOf};
 ghost use Rattle.voice.specs.Valid.{Valid};
 ghost use Rattle.loops.specs.Rendered.{Rendered};
-use loops::ahead;
-use loops::steady;
+use loops::while_idle;
+use loops::while_waiting;
 use step::step;
 use voice::Head;
 use voice::Waiting;
 
 // A voice once the first samples of a buffer are rendered, so many as are done.
-pub struct Part {
+pub struct Progress {
     pub head: Head,
     pub done: usize,
 }
 
 // Renders samples until no pluck sounds, one at least; a change may wait.
-fn sounding(line: &mut [i32; 2112], mut head: Head, buffer: &mut [i32]) -> Part
+fn sounding(line: &mut [i32; 2112], mut head: Head, buffer: &mut [i32]) -> Progress
     requires { ⌜ Valid head (now line) × (loudest (now buffer) ≤ M) ⌝ }
     ensures { λ r. ⌜ Rendered (now (buffer .entry)) (stateOf head (now (line .entry))) (now (buffer .exit))
         (stateOf (r .head) (now (line .exit))) (r .done) ⌝ }
@@ -37,13 +37,13 @@ fn sounding(line: &mut [i32; 2112], mut head: Head, buffer: &mut [i32]) -> Part
         head = r.head;
         i = i + 1;
         if head.pluck.left == 0 {
-            return Part {
+            return Progress {
                 head: head,
                 done: i,
             };
         }
     }
-    Part {
+    Progress {
         head: head,
         done: i,
     }
@@ -56,7 +56,7 @@ fn smaller(a: usize, b: usize) -> usize
 }
 
 // Renders as many samples as one loop can, one at least.
-fn stretch(line: &mut [i32; 2112], h: Head, buffer: &mut [i32]) -> Part
+fn stretch(line: &mut [i32; 2112], h: Head, buffer: &mut [i32]) -> Progress
     requires { ⌜ Valid h (now line) × (loudest (now buffer) ≤ M) ⌝ }
     ensures { λ r. ⌜ Rendered (now (buffer .entry)) (stateOf h (now (line .entry))) (now (buffer .exit))
         (stateOf (r .head) (now (line .exit))) (r .done) ⌝ }
@@ -70,16 +70,16 @@ fn stretch(line: &mut [i32; 2112], h: Head, buffer: &mut [i32]) -> Part
     let w = h.waiting;
     match w {
         Waiting::Idle => {
-            let head = steady(line, h, buffer);
-            Part {
+            let head = while_idle(line, h, buffer);
+            Progress {
                 head: head,
                 done: n,
             }
         }
         Waiting::Announced(e, taken) => {
             let done = smaller(n, (h.advance - taken) as usize);
-            let head = ahead(line, h, e, taken, &mut buffer[..done]);
-            Part {
+            let head = while_waiting(line, h, e, taken, &mut buffer[..done]);
+            Progress {
                 head: head,
                 done: done,
             }

@@ -6,12 +6,12 @@ use Prim.Native.Nat.{ℕ}
 use Rattle.refusal.specs.Orders.{Takes}
 use Rattle.rule.specs.Voice.{Waiting, Voice}
 use Rattle.rule.specs.Calls.{to}
-use Rattle.rule.specs.Valid.{Fit, Valid}
+use Rattle.rule.specs.Valid.{Tunable, Valid}
 use Rattle.rule.specs.Refusals.{ChangeReturns}
 use Rattle.rule.proofs.Keeps.{none-some}
 
 -- an accepted change's tuning is fit
-pub accepted-fit : {v : Voice} (L d : ℕ) {n : ℕ} → Valid v → ChangeReturns v L d n → n ≡ 0 → Fit (to v L d)
+pub accepted-fit : {v : Voice} (L d : ℕ) {n : ℕ} → Valid v → ChangeReturns v L d n → n ≡ 0 → Tunable (to v L d)
 accepted-fit {v} L d h r e =
     let p = r .accepted .0 e in
     let t = h .fit .takes in

@@ -12,7 +12,7 @@ use Rattle.rule.specs.Voice.{Tuning, Waiting, A, rest}
 use Rattle.rule.specs.Calls.{Call, block, loss, pluck, announce, instant, number, done, to, window}
 use Rattle.rule.specs.History.{History, steps, ago, step, told}
 use Rattle.rule.specs.Click.{Change, announced, instantly}
-use Rattle.rule.specs.Valid.{Fit}
+use Rattle.rule.specs.Valid.{Tunable}
 use Rattle.rule.proofs.Refusals.{refuses}
 use Rattle.rule.proofs.Keeps.{none-some, same-some, start, keeps, announced-waits}
 use Rattle.rule.proofs.Accepted.{not-while}
@@ -21,7 +21,7 @@ use Rattle.rule.proofs.Steps.{step-steps, step-keeps, step-waits, step-
 use Rattle.rule.proofs.Sound.{Ran, Sound, ran-step}
 
 -- a change to the tuning t that takes effect before step e; its second copy takes a samples; as far as step m
-module _ (t : Tuning) (f : Fit t) (a e m : ℕ) (due : e ≤ m) where
+module _ (t : Tuning) (f : Tunable t) (a e m : ℕ) (due : e ≤ m) where
   pub data Course (h : History) : Type 0 where
     -- it waits, with as many samples to take as there are steps to e
     coming : (w : Waiting) → h .voice .waiting ≡ some w → w .tuning ≡ t → h .voice .Na ≡ a → w .taken < a
@@ -103,7 +103,7 @@ module _ (t : Tuning) (f : Fit t) (a e m : ℕ) (due : e ≤ m) where
           omega arith
 
 -- ---- its start
-module _ (h : History) (L d m : ℕ) (f : Fit (to (h .voice) L d)) where
+module _ (h : History) (L d m : ℕ) (f : Tunable (to (h .voice) L d)) where
   abbrev t : Tuning
   t = to (h .voice) L d
 

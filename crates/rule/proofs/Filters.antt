@@ -14,22 +14,22 @@ use Rattle.allpass.specs.Bounds.{Within}
 use Rattle.allpass.proofs.Bounds.{next-within, rest-within, out-within, length-next}
 use Rattle.allpass.proofs.Contraction.{length-run, run-within}
 use Rattle.rule.specs.Voice.{Tuning, Voice, A, rest, output, written}
-use Rattle.rule.specs.Valid.{Fit, Filled}
+use Rattle.rule.specs.Valid.{Tunable, Filled}
 
 -- "In both orders |A1| + |A2| is at most 32,768"
-pub norm-fit : {t : Tuning} → Fit t → norm (A t) ≤ 32768
+pub norm-fit : {t : Tuning} → Tunable t → norm (A t) ≤ 32768
 norm-fit {t} f = theorem (t .N) (t .d) (f .takes) .small
 
 -- ---- states
 pub rest-filled : (t : Tuning) → Filled (t .N) (rest t)
 rest-filled t = record { many = length-replicate (t .N) (pos 0); within = rest-within (t .N) }
 
-pub next-filled : (t : Tuning) (v : List ℤ) (f : ℤ) → Fit t → Filled (t .N) v → natAbs f ≤ M
+pub next-filled : (t : Tuning) (v : List ℤ) (f : ℤ) → Tunable t → Filled (t .N) v → natAbs f ≤ M
     → Filled (t .N) (next (A t) v f)
 next-filled t v f g h k =
     record { many = length-next (A t) v f ∙ h .many; within = next-within (A t) (norm-fit g) f (h .within) k }
 
-pub run-filled : (t : Tuning) (v : List ℤ) {fs : List ℤ} → Fit t → Filled (t .N) v → Within M fs
+pub run-filled : (t : Tuning) (v : List ℤ) {fs : List ℤ} → Tunable t → Filled (t .N) v → Within M fs
     → Filled (t .N) (run (A t) v fs)
 run-filled t v {fs} g h k =
     record { many = length-run (A t) v fs ∙ h .many; within = run-within (A t) (norm-fit g) fs (h .within) k }

@@ -6,7 +6,7 @@ use Prim.Native.Nat.{ℕ, zero, suc, _<_}
 use native.Mathlib.Omega.{arith}
 use lib.IntN.{pos, negsuc}
 use lib.ListN.{getD}
-use Rattle.integer.specs.Rounding.{R, clip, floor, nearest}
+use Rattle.integer.specs.Rounding.{R, Q, clip, floor, nearest}
 use Rattle.thiran.specs.Formula.{a, factor}
 use Rattle.thiran.specs.Coefficients.{coefficient, coefficients}
 use Rattle.allpass.specs.Allpass.{inner, next, out}
@@ -35,7 +35,7 @@ t = record { N = 2; L = 1; d = 9159 }
 
 -- what is written: the new filter reads 0 before step 2, and 5,000 at step 3
 line : after o cs .s ≡ pos 0 ∷ pos 0 ∷ pos 5000 ∷ pos 7 ∷ negsuc 326 ∷ pos 1910 ∷ pos 2614 ∷ []
-unfolding read call step number opened done stepped settled output written noise spent coefficients
+unfolding read call step number opened done stepped settled output written Q noise spent coefficients
     coefficient a factor nearest floor R clip inner next out
 line = refl
 

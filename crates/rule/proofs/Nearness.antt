@@ -21,7 +21,7 @@ use Rattle.rule.specs.Voice.{Tuning, A, rest}
 use Rattle.rule.specs.Calls.{window}
 use Rattle.rule.specs.History.{read, newState, new}
 use Rattle.rule.specs.Click.{figure}
-use Rattle.rule.specs.Valid.{Fit, Filled}
+use Rattle.rule.specs.Valid.{Tunable, Filled}
 use Rattle.rule.proofs.Read.{length-window}
 use Rattle.rule.proofs.Filters.{norm-fit}
 use Rattle.rule.proofs.New.{state-window, state-silent, state-filled}
@@ -57,7 +57,7 @@ run-near a N u fs x b h =
 -- a state v of t's filter at step m, which was at rest a steps ago
 module _ (t : Tuning) (s : List ℤ) (m a : ℕ) (v : List ℤ)
     (e : v ≡ run (A t) (rest t) (window (read s m) (t .L) a)) where
-  pub figure-near : Fit t → Within M s
+  pub figure-near : Tunable t → Within M s
       → natAbs (out (A t) v (read s m (t .L)) -ℤ new t s m) ≤ figure (a / t .N)
   unfolding new
   figure-near f h =

@@ -14,7 +14,7 @@ use Rattle.allpass.proofs.Bounds.{next-rest}
 use Rattle.rule.specs.Voice.{Tuning, A, rest}
 use Rattle.rule.specs.Calls.{window}
 use Rattle.rule.specs.History.{read, newState, new}
-use Rattle.rule.specs.Valid.{Fit, Filled}
+use Rattle.rule.specs.Valid.{Tunable, Filled}
 use Rattle.rule.proofs.Read.{read-before, read-append, read-less, read-within}
 use Rattle.rule.proofs.Filters.{rest-filled, next-filled}
 
@@ -51,7 +51,7 @@ module _ (t : Tuning) (s : List ℤ) where
   state-silent (suc m) h =
       rw (state-silent m (λ i p. h i (omega arith)), h m (omega arith)) (next-rest (A t) (t .N))
 
-  pub state-filled : (m : ℕ) → Fit t → Within M s → Filled (t .N) (newState t s m)
+  pub state-filled : (m : ℕ) → Tunable t → Within M s → Filled (t .N) (newState t s m)
   state-filled zero f h = rest-filled t
   state-filled (suc m) f h =
       next-filled t (newState t s m) (read s m (t .L)) f (state-filled m f h) (read-within m (t .L) h)

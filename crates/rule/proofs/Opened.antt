@@ -10,7 +10,7 @@ use Rattle.refusal.specs.Limits.{Between, refusal}
 use Rattle.refusal.specs.Orders.{Takes}
 use Rattle.rule.specs.Voice.{Tuning, Voice, rest}
 use Rattle.rule.specs.Calls.{Opening, openLimits, opened, resting}
-use Rattle.rule.specs.Valid.{Fit, Valid}
+use Rattle.rule.specs.Valid.{Tunable, Valid}
 use Rattle.rule.specs.Refusals.{Resting}
 use Rattle.rule.proofs.Refusals.{refuses}
 use Rattle.rule.proofs.Filters.{rest-filled}
@@ -27,7 +27,7 @@ rested : {v : Voice} (N L d G Na : ℕ) → Resting N L d G Na v → Takes N d �
     → Na ≤ 64 → Rested v
 rested {v} N L d G Na r k l g a =
     let t : Tuning = record { N = N; L = L; d = d } in
-    let f : Fit t = record { takes = k; short = l .least; long = l .most } in
+    let f : Tunable t = record { takes = k; short = l .least; long = l .most } in
     record {
       valid = record {
         fit = rw (r .tuning) f;

@@ -13,7 +13,7 @@ use Rattle.rule.specs.Voice.{Tuning, A, output, written}
 use Rattle.rule.specs.Calls.{Call, announce, instant, number}
 use Rattle.rule.specs.History.{History, read, steps, ago, step, told, call, from, new}
 use Rattle.rule.specs.Click.{Change, announced, instantly, NoneBy, Figure}
-use Rattle.rule.specs.Valid.{Fit}
+use Rattle.rule.specs.Valid.{Tunable}
 use Rattle.rule.proofs.Refusals.{refuses}
 use Rattle.rule.proofs.Read.{read-append}
 use Rattle.rule.proofs.New.{new-append}
@@ -25,7 +25,7 @@ use Rattle.rule.proofs.Sound.{Ran, Sound, step-sound, told-sound}
 use Rattle.rule.proofs.Course.{Course, coming, ruling, course-step, Late, course-told}
 use Rattle.rule.proofs.Course.{begins-instant, begins-announced}
 
-module _ (t : Tuning) (f : Fit t) (a e m : ℕ) (due : e ≤ m) where
+module _ (t : Tuning) (f : Tunable t) (a e m : ℕ) (due : e ≤ m) where
   -- step m is ahead, or lies behind, and then what is claimed of it holds
   pub data Place (h : History) : Type 0 where
     ahead : steps h ≤ m → Course t f a e m due h → Place h
@@ -115,7 +115,7 @@ module _ (t : Tuning) (f : Fit t) (a e m : ℕ) (due : e ≤ m) where
 
 -- ---- what a change's course needs: its tuning is fit, it was accepted, and it begins
 pub record Begun (h : History) (c : Call) (t : Tuning) (a e m : ℕ) (due : e ≤ m) : Type 0 where
-  pub fit : Fit t
+  pub fit : Tunable t
   pub place : Place t fit a e m due (call h c)
 
 pub begins : (h : History) {c : Call} {t : Tuning} {a e m : ℕ} → Sound h → Change h c t a e → (due : e ≤ m)

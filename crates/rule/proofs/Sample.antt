@@ -6,6 +6,7 @@ use native.Mathlib.Omega.{arith}
 use lib.IntN.{ℤ, pos}
 use lib.ListN.{getD, List·getD-append}
 use lib.Seq.{getD-at}
+use Rattle.integer.specs.Rounding.{Q}
 use Rattle.rule.specs.Voice.{output, written}
 use Rattle.rule.specs.Calls.{Call, Opening}
 use Rattle.rule.specs.History.{History, steps, ago, step, after}
@@ -19,7 +20,7 @@ module _ (h : History) (x : ℤ) (g : Sound h) where
   output-now = getD-at (h .y) (output (h .voice) (ago h)) [] (pos 0) (steps h) (g .even)
 
   pub sampled : Sample h x
-  unfolding step output written
+  unfolding step output written Q
   sampled =
       let v = h .voice in
       let n = steps h in

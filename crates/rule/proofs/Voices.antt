@@ -10,7 +10,7 @@ use lib.IntN.{ℤ}
 use borrow.Author.Tests.{le-leb, lt-leb}
 use Rattle.rule.specs.Voice.{Tuning, Waiting, Pluck, Voice, spent, heard, stepped}
 use Rattle.rule.specs.Calls.{Call, block, loss, pluck, announce, instant, number, done, to}
-use Rattle.rule.specs.Valid.{Fit, Filled, Coming, Plucked, Valid, Samples}
+use Rattle.rule.specs.Valid.{Tunable, Filled, Coming, Plucked, Valid, Samples}
 use Rattle.rule.specs.Keeps.{InForce, Retuned}
 use Rattle.rule.proofs.Refusals.{refuses}
 use Rattle.rule.proofs.Read.{window-within}
@@ -21,7 +21,7 @@ use Rattle.rule.proofs.Steps.{onward, stepped-keeps, Goes, idle, holds,
 
 -- ---- a voice that differs in what a change touches
 tuned-valid : {v u : Voice} {t : Tuning} {q : List ℤ} {o : Option Waiting} → Retuned v u → InForce u t q o
-    → Valid v → Fit t → Filled (t .N) q → ((w : Waiting) → o ≡ some w → Coming (v .Na) w)
+    → Valid v → Tunable t → Filled (t .N) q → ((w : Waiting) → o ≡ some w → Coming (v .Na) w)
     → Valid u
 tuned-valid r k h f g c = record {
   fit = rw (k .tuning) f;
@@ -118,7 +118,7 @@ done-valid v r (announce L d) e s h = go (ℕ-discrete (v .Na) 0)
     t : Tuning
     t = to v L d
 
-    f : Fit t
+    f : Tunable t
     f = accepted-fit L d h (refuses .announces v L d) e
 
     go : Dec (v .Na ≡ 0) → Valid (done v r (announce L d))

@@ -13,7 +13,7 @@ use Rattle.rule.specs.Voice.{Tuning, Waiting, Pluck, Voice, silent}
 use Rattle.rule.specs.State.{State}
 
 -- "A voice has N, a length L (1 to 2,048), d"
-pub record Fit (t : Tuning) : Type 0 where
+pub record Tunable (t : Tuning) : Type 0 where
   pub takes : Takes (t .N) (t .d)
   pub short : 1 ≤ t .L
   pub long : t .L ≤ 2048
@@ -25,7 +25,7 @@ pub record Filled (N : ℕ) (v : List ℤ) : Type 0 where
 
 -- what waits in a voice of advance Na: with Na samples taken it would be in force
 pub record Coming (Na : ℕ) (w : Waiting) : Type 0 where
-  pub fit : Fit (w .tuning)
+  pub fit : Tunable (w .tuning)
   pub taken : w .taken < Na
   pub state : Filled (w .tuning .N) (w .state)
 
@@ -36,7 +36,7 @@ pub record Plucked (p : Pluck) : Type 0 where
   pub over : p .left ≡ 0 → p ≡ silent
 
 pub record Valid (v : Voice) : Type 0 where
-  pub fit : Fit (v .tuning)
+  pub fit : Tunable (v .tuning)
   pub loss : v .G ≤ 65535
   pub advance : v .Na ≤ 64
   pub state : Filled (v .tuning .N) (v .state)

@@ -6,7 +6,7 @@ use mathlib.Core.Option.{Option, none, some}
 use Prim.Native.Nat.{ℕ, suc, _-_}
 use lib.Dec.{leb, eqb}
 use lib.IntN.{ℤ, pos, _+ℤ_, _*ℤ_}
-use Rattle.integer.specs.Rounding.{clip, floor}
+use Rattle.integer.specs.Rounding.{clip, Q}
 use Rattle.thiran.specs.Coefficients.{coefficients}
 use Rattle.allpass.specs.Allpass as Filter
 use Rattle.allpass.specs.Allpass.{next, out}
@@ -78,10 +78,11 @@ abbrev pub fedToo : Option Waiting → (ℕ → ℤ) → Option Waiting
 fedToo none r = none
 fedToo (some w) r = some (fed w r)
 
--- "3. s(n) = clip(p(n) + floor((G·(y(n) + y(n − 1)) + 65,536)/131,072))": p(n) is the input plus the noise
+-- "3. s(n) = clip(p(n) + floor((G·(y(n) + y(n − 1)) + 65,536)/131,072))": p(n) is the input plus the noise,
+-- and Q is the loop's division
 unfoldable pub written : Voice → (ℕ → ℤ) → ℤ → ℤ
 written v r x =
-    clip ((x +ℤ noise (v .pluck)) +ℤ floor (pos (v .G) *ℤ (output v r +ℤ v .last) +ℤ pos 65536) 131072)
+    clip ((x +ℤ noise (v .pluck)) +ℤ Q (pos (v .G) *ℤ (output v r +ℤ v .last)))
 
 -- the voice whose filter took s(n − L); what waits is told beside it
 abbrev pub heard : Voice → (ℕ → ℤ) → Voice

@@ -5,7 +5,7 @@ use mathlib.Core.List.{List, _∷_}
 use Prim.Native.Nat.{ℕ, _≤_}
 use lib.IntN.{ℤ, pos, _+ℤ_, _*ℤ_}
 use lib.ListN.{take}
-use Rattle.integer.specs.Rounding.{M, floor}
+use Rattle.integer.specs.Rounding.{M, Q}
 use Rattle.integer.proofs.Rounding.{clip-abs}
 use Rattle.allpass.specs.Bounds.{Within, more}
 use Rattle.line.specs.Ring.{ring}
@@ -92,7 +92,7 @@ module _ {h : Head} {l : List ℤ} (v : Valid h l) {x : ℤ} {p : Sounded} {r : 
 
   line-within : Within M (ring (r .at) k)
   line-within =
-      let b = floor (pos (h .loss) *ℤ (r .y .n +ℤ h .last .n) +ℤ pos 65536) 131072 in
+      let b = Q (pos (h .loss) *ℤ (r .y .n +ℤ h .last .n)) in
       subst (λ (l : List ℤ). Within M l) (sym (c .line))
       (more (clip-abs ((x +ℤ p .noise .n) +ℤ b)) (take-within 2111 (v .line)))
 

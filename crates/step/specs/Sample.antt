@@ -5,7 +5,7 @@ use mathlib.Core.List.{List, _∷_}
 use Prim.Native.Nat.{ℕ, _≤_, _<_, _^_}
 use lib.IntN.{ℤ, pos, natAbs, _+ℤ_, _*ℤ_}
 use lib.ListN.{take}
-use Rattle.integer.specs.Rounding.{M, clip, floor}
+use Rattle.integer.specs.Rounding.{M, clip, Q}
 use Rattle.allpass.specs.Allpass.{next, out, run}
 use Rattle.line.specs.Ring.{ring}
 use Rattle.rule.specs.Voice.{A, noise, spent, fedToo, settled}
@@ -70,7 +70,7 @@ pub record Circulates (f : Filter) (G : ℕ) (last : ℤ) (at : ℕ) (l : List �
   pub hears : Hears f (back (ring at l) (f .tuning .length)) (record { y = r .y; filter = r .filter })
   pub place : r .at < 2112
   pub line : ring (r .at) k
-      ≡ clip ((x +ℤ noise) +ℤ floor (pos G *ℤ (r .y .n +ℤ last) +ℤ pos 65536) 131072) ∷ take 2111 (ring at l)
+      ≡ clip ((x +ℤ noise) +ℤ Q (pos G *ℤ (r .y .n +ℤ last))) ∷ take 2111 (ring at l)
 
 -- a whole sample with input x on the line l, which it leaves as k
 pub record Steps (h : Head) (l : List ℤ) (x : ℤ) (r : Stepped) (k : List ℤ) : Type 0 where

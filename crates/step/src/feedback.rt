@@ -3,7 +3,7 @@
 ghost use mathlib.Core.Path.{_≡_};
 ghost use Prim.Native.Nat.{_≤_, _<_, _^_};
 ghost use lib.IntN.{pos, natAbs, _+ℤ_, _*ℤ_};
-ghost use Rattle.integer.specs.Rounding.{M, floor, clip as Clip};
+ghost use Rattle.integer.specs.Rounding.{M, Q, clip as Clip};
 ghost use Rattle.allpass.specs.Bounds.{Within};
 ghost use Rattle.line.specs.Ring.{ring};
 ghost use Rattle.voice.specs.Valid.{Tuned};
@@ -11,7 +11,7 @@ ghost use Rattle.step.specs.Sample.{Circulates};
 use crate::filter::hear;
 use integer::Value;
 use integer::clip;
-use integer::floor_q17;
+use integer::round_q17;
 use voice::Filter;
 
 // at is the place of the next sample.
@@ -21,21 +21,20 @@ pub struct Circulated {
     pub at: usize,
 }
 
-// floor((G·(y(n) + y(n − 1)) + 65,536)/131,072).
+// What the loop brings back: G·(y(n) + y(n − 1)), divided.
 fn looped(loss: u32, y: Value, last: Value) -> Value
     requires { ⌜ (loss ≤ 65535) × (natAbs (y .n) ≤ M) × (natAbs (last .n) ≤ M) ⌝ }
-    ensures { λ r. ⌜ (r .n ≡ floor (pos loss *ℤ (y .n +ℤ last .n) +ℤ pos 65536) 131072)
-        × (natAbs (r .n) ≤ 2 ^ 24) ⌝ }
+    ensures { λ r. ⌜ (r .n ≡ Q (pos loss *ℤ (y .n +ℤ last .n))) × (natAbs (r .n) ≤ M) ⌝ }
 {
     let g = loss as i64;
-    floor_q17(Value {
-        n: g * (y.n + last.n) + 65_536,
+    round_q17(Value {
+        n: g * (y.n + last.n),
     })
 }
 
 // s(n): the input, the noise sample and what the loop brings back, clipped.
 fn mixed(x: Value, noise: Value, back: Value) -> Value
-    requires { ⌜ (natAbs (x .n) ≤ M) × (natAbs (noise .n) ≤ 2 ^ 23) × (natAbs (back .n) ≤ 2 ^ 24) ⌝ }
+    requires { ⌜ (natAbs (x .n) ≤ M) × (natAbs (noise .n) ≤ 2 ^ 23) × (natAbs (back .n) ≤ M) ⌝ }
     ensures { λ r. ⌜ r .n ≡ Clip ((x .n +ℤ noise .n) +ℤ back .n) ⌝ }
 {
     clip(Value {

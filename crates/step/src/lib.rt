@@ -17,7 +17,7 @@ use integer::Value;
 use sound::sound;
 use voice::Head;
 use voice::Waiting;
-use voice::with;
+use voice::settle;
 
 pub struct Stepped {
     pub y: Value,
@@ -31,14 +31,7 @@ fn settled(h: Head, w: Waiting, g: Value) -> Head
 {
     match w {
         Waiting::Idle => h,
-        Waiting::Announced(e, taken) => {
-            let n = moved(e, g);
-            if taken + 1 == h.advance {
-                return with(h, n, Waiting::Idle);
-            }
-            let f = h.filter;
-            with(h, f, Waiting::Announced(n, taken + 1))
-        }
+        Waiting::Announced(e, taken) => settle(h, moved(e, g), taken + 1),
     }
 }
 

@@ -10,7 +10,7 @@ use Rattle.refusal.specs.Orders.{Takes, order, delay}
 use Rattle.refusal.specs.Returned.{Returned, Kept, AllKept, none, more}
 use Rattle.refusal.proofs.Returned.{returned}
 use Rattle.thiran.specs.Coefficients.{coefficients}
-use Rattle.thiran.specs.Answers.{limits, answer}
+use Rattle.thiran.specs.Answers.{limits, design}
 
 module _ (N d : ℕ) where
   pub refusals : Returned (limits N d)
@@ -29,13 +29,13 @@ module _ (N d : ℕ) where
       let p : Kept (delay N d) = record { least = t .low; most = t .high } in
       refusals .accepted .1 (more o (more p none))
 
-  pub answer-refused : (refusal (limits N d) ≡ 0 → ⊥)
-      → answer N d ≡ record { refusal = refusal (limits N d); a1 = pos 0; a2 = pos 0 }
-  unfolding answer
-  answer-refused f = rw (ne-eqb (refusal (limits N d)) 0 f)
+  pub design-refused : (refusal (limits N d) ≡ 0 → ⊥)
+      → design N d ≡ record { refusal = refusal (limits N d); a1 = pos 0; a2 = pos 0 }
+  unfolding design
+  design-refused f = rw (ne-eqb (refusal (limits N d)) 0 f)
 
-  pub answer-taken : Takes N d
-      → answer N d
+  pub design-taken : Takes N d
+      → design N d
       ≡ record { refusal = 0; a1 = getD (coefficients N d) 0 (pos 0); a2 = getD (coefficients N d) 1 (pos 0) }
-  unfolding answer
-  answer-taken t = rw (eq-eqb (refusal (limits N d)) 0 (takes-0 t))
+  unfolding design
+  design-taken t = rw (eq-eqb (refusal (limits N d)) 0 (takes-0 t))

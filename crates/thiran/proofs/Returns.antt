@@ -16,24 +16,24 @@ use Rattle.refusal.specs.Ranges.{order-1, order-2, OrderDelay}
 use Rattle.refusal.proofs.Ranges.{ranges, order-delay}
 use Rattle.thiran.specs.Formula.{a, Same, over}
 use Rattle.thiran.specs.Coefficients.{coefficient, coefficients}
-use Rattle.thiran.specs.Answers.{limits, answer}
+use Rattle.thiran.specs.Answers.{limits, design}
 use Rattle.thiran.specs.Returns.{Returns}
-use Rattle.thiran.specs.declared.Answer.{Answer}
-use Rattle.thiran.proofs.Refusals.{takes, answer-refused, answer-taken}
+use Rattle.thiran.specs.declared.Design.{Design}
+use Rattle.thiran.proofs.Refusals.{takes, design-refused, design-taken}
 use Rattle.thiran.proofs.Theorems as T
 
 module _ (N d : ℕ) where
-  number-is : refusal (limits N d) ≡ answer N d .refusal
+  number-is : refusal (limits N d) ≡ design N d .refusal
   number-is = go (ℕ-discrete (refusal (limits N d)) 0)
     where
-      go : Dec (refusal (limits N d) ≡ 0) → refusal (limits N d) ≡ answer N d .refusal
-      go (yes e) = e ∙ sym (ap (λ (r : Answer). r .refusal) (answer-taken N d (takes N d e)))
-      go (no f) = sym (ap (λ (r : Answer). r .refusal) (answer-refused N d f))
+      go : Dec (refusal (limits N d) ≡ 0) → refusal (limits N d) ≡ design N d .refusal
+      go (yes e) = e ∙ sym (ap (λ (r : Design). r .refusal) (design-taken N d (takes N d e)))
+      go (no f) = sym (ap (λ (r : Design). r .refusal) (design-refused N d f))
 
-  refused : (answer N d .refusal ≡ 0 → ⊥) → (answer N d .a1 ≡ pos 0) × (answer N d .a2 ≡ pos 0)
+  refused : (design N d .refusal ≡ 0 → ⊥) → (design N d .a1 ≡ pos 0) × (design N d .a2 ≡ pos 0)
   refused f =
-      let e = answer-refused N d (λ z. f (sym number-is ∙ z)) in
-      (ap (λ (r : Answer). r .a1) e, ap (λ (r : Answer). r .a2) e)
+      let e = design-refused N d (λ z. f (sym number-is ∙ z)) in
+      (ap (λ (r : Design). r .a1) e, ap (λ (r : Design). r .a2) e)
 
 -- a coefficient is nearest to 65,536 times any fraction that equals the formula's
 module _ (N d k : ℕ) (t : Takes N d) (h : 1 ≤ k) where
@@ -64,13 +64,13 @@ returns = record {
   refused = refused;
   order-1 = λ d b.
       let t = ranges .takes 1 d .1 (order-1 b) in
-      rw (answer-taken 1 d t) (record {
+      rw (design-taken 1 d t) (record {
         a1 = nearest-by 1 d 1 t (lit≤ tt) _ _ (omega arith) (T.order-1 d .a1);
         a2 = refl;
       });
   order-2 = λ d b.
       let t = ranges .takes 2 d .1 (order-2 b) in
-      rw (answer-taken 2 d t) (record {
+      rw (design-taken 2 d t) (record {
         a1 = nearest-by 2 d 1 t (lit≤ tt) _ _ (omega arith) (T.order-2 d .a1);
         a2 = nearest-by 2 d 2 t (lit≤ tt) _ _ (omega arith) (T.order-2 d .a2);
       });

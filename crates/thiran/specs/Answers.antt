@@ -9,7 +9,7 @@ use lib.ListN.{take, getD}
 use Rattle.refusal.specs.Limits.{Limit, refusal}
 use Rattle.refusal.specs.Orders.{order, delay}
 use Rattle.thiran.specs.Coefficients.{coefficients}
-use Rattle.thiran.specs.declared.Answer.{Answer}
+use Rattle.thiran.specs.declared.Design.{Design}
 use Rattle.thiran.specs.declared.formula.Coefficients.{Coefficients}
 
 -- "Coefficients: 1, 3"
@@ -17,8 +17,8 @@ abbrev pub limits : ℕ → ℕ → List Limit
 limits N d = order N ∷ delay N d ∷ []
 
 -- "both come back 0"; A2 is 0 in order 1
-unfoldable pub answer : ℕ → ℕ → Answer
-answer N d =
+unfoldable pub design : ℕ → ℕ → Design
+design N d =
     cond (eqb (refusal (limits N d)) 0)
     (record { refusal = 0; a1 = getD (coefficients N d) 0 (pos 0); a2 = getD (coefficients N d) 1 (pos 0) })
     (record { refusal = refusal (limits N d); a1 = pos 0; a2 = pos 0 })
@@ -27,6 +27,9 @@ answer N d =
 unfoldable pub padded : List ℤ → Coefficients
 padded A = record { a1 = getD A 0 (pos 0); a2 = getD A 1 (pos 0) }
 
--- the coefficients of order N in the struct
+-- the numbers of the struct, and those of order N
+abbrev pub listed : Coefficients → List ℤ
+listed c = c .a1 ∷ c .a2 ∷ []
+
 abbrev pub taps : ℕ → Coefficients → List ℤ
-taps N c = take N (c .a1 ∷ c .a2 ∷ [])
+taps N c = take N (listed c)

@@ -17,14 +17,14 @@ pub struct Coefficients {
 }
 
 // A fraction.
-struct Part {
+struct Ratio {
     pub top: i64,
     pub bottom: u64,
 }
 
 // The fraction of index k + 1 from that of index k: times (N − k) (N − D − k) / ((k + 1) (D + k + 1)),
 // with 4,096 above and below, since d is 4,096 D.
-fn next(p: Part, order: u32, d: u32, k: u32) -> Part
+fn next(p: Ratio, order: u32, d: u32, k: u32) -> Ratio
     requires { ⌜ (Takes order d) × (k < orders) × (p ≡ part order d k) ⌝ }
     ensures { λ r. ⌜ r ≡ part order d (k + 1) ⌝ }
 {
@@ -32,14 +32,14 @@ fn next(p: Part, order: u32, d: u32, k: u32) -> Part
     let x = (4_096 * order) as i64 - (d + 4_096 * k) as i64;
     let j = k + 1;
     let q = j * (d + 4_096 * j);
-    Part {
+    Ratio {
         top: p.top * (n * x),
         bottom: p.bottom * (q as u64),
     }
 }
 
 // 65,536 times a fraction, to the nearest whole number, a half upward.
-fn rounded(p: Part) -> Value
+fn rounded(p: Ratio) -> Value
     requires { ⌜ Roundable p ⌝ }
     ensures { λ r. ⌜ r .n ≡ Nearest (pos 65536 *ℤ p .top) (p .bottom) ⌝ }
 {
@@ -51,7 +51,7 @@ pub fn set(order: u32, d: u32) -> Coefficients
     requires { ⌜ Takes order d ⌝ }
     ensures { λ r. ⌜ r ≡ padded (coefficients order d) ⌝ }
 {
-    let p1 = next(Part { top: 1, bottom: 1 }, order, d, 0);
+    let p1 = next(Ratio { top: 1, bottom: 1 }, order, d, 0);
     let p2 = next(p1, order, d, 1);
     let a1 = rounded(p1);
     let a2 = rounded(p2);

@@ -2,12 +2,12 @@
 // Contracts cite specs/Answers.antt; the filter's own set is made by the module `formula`.
 ghost use mathlib.Core.Path.{_≡_};
 ghost use Rattle.refusal.specs.Limits.{refusal};
-ghost use Rattle.thiran.specs.Answers.{limits, answer};
+ghost use Rattle.thiran.specs.Answers.{limits, design};
 
 pub mod formula;
 
 // What `coefficients` returns: refusal is 0 for success.
-pub struct Answer {
+pub struct Design {
     pub refusal: u32,
     pub a1: i32,
     pub a2: i32,
@@ -27,19 +27,19 @@ pub fn refused(order: u32, d: u32) -> u32
 }
 
 // A1 and A2 of an order and a delay; both 0 where they are refused.
-pub fn coefficients(order: u32, d: u32) -> Answer
-    ensures { λ r. ⌜ r ≡ answer order d ⌝ }
+pub fn coefficients(order: u32, d: u32) -> Design
+    ensures { λ r. ⌜ r ≡ design order d ⌝ }
 {
     let code = refused(order, d);
     if code != 0 {
-        return Answer {
+        return Design {
             refusal: code,
             a1: 0,
             a2: 0,
         };
     }
     let c = formula::set(order, d);
-    Answer {
+    Design {
         refusal: 0,
         a1: c.a1 as i32,
         a2: c.a2 as i32,

@@ -1,7 +1,10 @@
 -- The voice that the code's structs hold, in the sample rule's terms: `stateOf`, of a head and its line.
 -- Where the ring of the line begins cannot be seen through it. Definitions alone. Assumes nothing.
+use mathlib.Core.Bool.{cond}
 use mathlib.Core.List.{List}
 use mathlib.Core.Option.{Option, none, some}
+use Prim.Native.Nat.{ℕ}
+use lib.Dec.{eqb}
 use lib.IntN.{ℤ}
 use Rattle.allpass.specs.Stored.{held}
 use Rattle.line.specs.Ring.{ring}
@@ -53,3 +56,8 @@ withOf h f w = record {
   pluck = h .pluck;
   at = h .at;
 }
+
+-- h with a change to the eliminator e, which has taken k samples: "If the eliminator has now taken Na samples,
+-- L', d' and its state replace the voice's"
+abbrev pub settledOf : Head → Filter → ℕ → Head
+settledOf h e k = cond (eqb k (h .advance)) (withOf h e Idle) (withOf h (h .filter) (Announced e k))

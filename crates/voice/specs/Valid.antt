@@ -30,14 +30,14 @@ pub record Tuned (f : Filter) : Type 0 where
   pub within : Within (2 * M) (filterOf f)
 
 -- a waiting change: its filter, of the voice's order, has taken fewer samples than the advance
-pub record Waits (order advance : ℕ) (e : Filter) (taken : ℕ) : Type 0 where
+pub record Preparing (order advance : ℕ) (e : Filter) (taken : ℕ) : Type 0 where
   pub tuned : Tuned e
   pub same : e .tuning .order ≡ order
   pub fewer : taken < advance
 
 abbrev pub Waiting-valid : ℕ → ℕ → Waiting → Type 0
 Waiting-valid order advance Idle = Unit {0}
-Waiting-valid order advance (Announced e k) = Waits order advance e k
+Waiting-valid order advance (Announced e k) = Preparing order advance e k
 
 -- a pluck, all 0 where no step is left
 pub record Plucked (p : Pluck) : Type 0 where

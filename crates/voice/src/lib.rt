@@ -6,7 +6,7 @@ ghost use Prim.Native.Nat.{_≤_};
 ghost use Rattle.refusal.specs.Limits.{refusal};
 ghost use Rattle.refusal.specs.Orders.{Takes, orders, delay as Delay};
 ghost use Rattle.rule.specs.Tests.{long};
-ghost use Rattle.voice.specs.Struct.{withOf};
+ghost use Rattle.voice.specs.Struct.{withOf, settledOf};
 ghost use Rattle.voice.specs.Called.{Rests};
 use allpass::State;
 use integer::Value;
@@ -70,6 +70,18 @@ pub fn with(h: Head, filter: Filter, waiting: Waiting) -> Head
         pluck: p,
         at: h.at,
     }
+}
+
+// h with a change to the eliminator e, which has taken so many samples: it is in force once they are as many
+// as the advance.
+pub fn settle(h: Head, e: Filter, taken: u32) -> Head
+    ensures { λ r. ⌜ r ≡ settledOf h e taken ⌝ }
+{
+    if taken == h.advance {
+        return with(h, e, Waiting::Idle);
+    }
+    let f = h.filter;
+    with(h, f, Waiting::Announced(e, taken))
 }
 
 // The filter of a tuning, at rest.

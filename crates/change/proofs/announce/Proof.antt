@@ -1,9 +1,9 @@
--- `change::announce` meets its contract: its eliminator is at rest, in force at once or waiting.
+-- `change::announce` meets its contract: its eliminator is at rest, and in force at once or waiting.
 -- Assumes nothing.
 use borrow.Author.Needs.{needs}
 use Rattle.rule.specs.Calls.{announce, number}
 use Rattle.voice.proofs.Called.{called-refused}
-use Rattle.change.proofs.Changes.{changes-now, changes-later}
+use Rattle.change.proofs.Changes.{changes-announced}
 use Rattle.change.proofs.announce.Statement.{statement}
 use Rattle.change.proofs.announce.Tie as tie
 
@@ -21,40 +21,17 @@ returns c =
 resting-requires : tie.Need-resting-requires
 resting-requires c κs = c .before .refused .ensures .within (c .if1 .left)
 
-with-requires : tie.Need-with-requires
-with-requires c κs = search needs
+settle-requires : tie.Need-settle-requires
+settle-requires c κs = search needs
 
 returns-2 : tie.Need-returns-2
 unfolding number
 returns-2 c =
-    let i = c .before in
-    let r = i .before .before in
+    let r = c .before in
     let b = r .before in
     let e = b .before .refused .ensures .number in
-    rw (c .with .ensures)
-    (changes-now (b .before .before .pre) (r .resting .ensures) e (b .if1 .left) (i .if2 .taken))
-
-with-requires-2 : tie.Need-with-requires-2
-with-requires-2 c κs = search needs
-
-returns-3 : tie.Need-returns-3
-unfolding number
-returns-3 c =
-    let i = c .before .before in
-    let r = i .before .before in
-    let b = r .before in
-    let e = b .before .refused .ensures .number in
-    rw (c .with2 .ensures)
-    (changes-later (b .before .before .pre) (r .resting .ensures) e (b .if1 .left) (i .if2 .left))
+    rw (c .settle .ensures)
+    (changes-announced (b .before .before .pre) (r .resting .ensures) e (b .if1 .left))
 
 pub announce-spec : {M : Type 1} → statement M
-announce-spec =
-    tie.close
-    (tie.spec
-    refused-requires
-    returns
-    resting-requires
-    with-requires
-    returns-2
-    with-requires-2
-    returns-3)
+announce-spec = tie.close (tie.spec refused-requires returns resting-requires settle-requires returns-2)

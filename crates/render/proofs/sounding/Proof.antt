@@ -9,13 +9,13 @@ use lib.ListN.{length, getD}
 use Rattle.integer.specs.Rounding.{M}
 use Rattle.rule.specs.State.{step}
 use Rattle.voice.specs.Struct.{stateOf}
-use Rattle.loops.proofs.Passes.{Reached, started, reads, more}
+use Rattle.loops.proofs.Passes.{Passed, started, reads, more}
 use Rattle.render.proofs.sounding.Statement.{statement}
 use Rattle.render.proofs.sounding.Tie as tie
 
 abbrev Inv-loop : tie.InvT-loop
 Inv-loop line₀ head₀ buffer₀ i₀ line head buffer i =
-    Reached buffer₀ (stateOf head₀ line₀) buffer head line i
+    Passed buffer₀ (stateOf head₀ line₀) buffer head line i
 
 abbrev μ-loop : tie.MeasureT-loop
 μ-loop line₀ head₀ buffer₀ i₀ line head buffer i = length buffer₀ - i
@@ -59,7 +59,7 @@ module _ (c : tie.After-write Inv-loop μ-loop) where
   abbrev start : tie.Start Inv-loop μ-loop
   start = pass .before
 
-  further : Reached (start .args .buffer .now) (stateOf (start .args .head) (start .args .line .now))
+  further : Passed (start .args .buffer .now) (stateOf (start .args .head) (start .args .line .now))
       (c .write .last .0) (stepped .step .result .head) (stepped .step .last .0) (pass .loop .i + 1)
   further =
       more (pass .loop .inv) (stepped .before .before .before .before .loop-test .taken)

@@ -7,7 +7,7 @@ use borrow.Author.Needs.{needs}
 use lib.Seq.{length-take-le}
 use Rattle.voice.specs.declared.Waiting.{Waiting}
 use Rattle.voice.specs.declared.Head.{Head}
-use Rattle.voice.specs.Valid.{Waits, Waiting-valid}
+use Rattle.voice.specs.Valid.{Preparing, Waiting-valid}
 use Rattle.render.proofs.Joined.{loudest-take, rendered-first}
 use Rattle.render.proofs.stretch.Statement.{statement}
 use Rattle.render.proofs.stretch.Tie as tie
@@ -24,8 +24,8 @@ returns c = search needs
 enum-told : tie.Need-enum-told
 enum-told c = search needs
 
-steady-requires : tie.Need-steady-requires
-steady-requires c κs = search needs
+while-idle-requires : tie.Need-while-idle-requires
+while-idle-requires c κs = search needs
 
 enum-known-w : tie.Need-enum-known-w
 enum-known-w c = search needs
@@ -38,7 +38,7 @@ module _ (c : tie.After-w) where
   abbrev h : Head
   h = start .args .h
 
-  waits : Waits (h .filter .tuning .order) (h .advance) (c .w .given .0 .0) (c .w .given .0 .1 .0)
+  waits : Preparing (h .filter .tuning .order) (h .advance) (c .w .given .0 .0) (c .w .given .0 .1 .0)
   waits =
       subst (λ (w : Waiting). Waiting-valid (h .filter .tuning .order) (h .advance) w) (c .w .given .1)
       (start .pre .0 .fit .waiting)
@@ -61,8 +61,8 @@ slice-aggregate-ahead c =
     let s = start (m .before .before .before) in
     sym (length-take-le (m .smaller .result) (s .args .buffer .now) (m .smaller .ensures .0))
 
-ahead-requires : tie.Need-ahead-requires
-ahead-requires c κs =
+while-waiting-requires : tie.Need-while-waiting-requires
+while-waiting-requires c κs =
     let m = c .before .before in
     let a = m .before .before .before in
     let s = start a in
@@ -89,8 +89,8 @@ returns-3 c =
     let a = m .before .before .before in
     let s = start a in
     let e = m .smaller .ensures in (
-      rendered-first (s .args .buffer .now) (m .smaller .result) (e .0) (s .pre .1) (k .ahead .ensures .0),
-      (k .ahead .ensures .1, λ h. e .2 h (omega (arith, waits a .fewer))),
+      rendered-first (s .args .buffer .now) (m .smaller .result) (e .0) (s .pre .1) (k .while-waiting .ensures .0),
+      (k .while-waiting .ensures .1, λ h. e .2 h (omega (arith, waits a .fewer))),
     )
 
 pub stretch-spec : {M : Type 1} → statement M
@@ -101,14 +101,14 @@ stretch-spec =
     same-length
     returns
     enum-told
-    steady-requires
+    while-idle-requires
     enum-known-w
     sub-smaller
     cast-smaller
     smaller-requires
     slice-relend-prefix-ahead
     slice-aggregate-ahead
-    ahead-requires
+    while-waiting-requires
     same-length-2
     returns-2
     same-length-3

@@ -1,4 +1,4 @@
--- `step::settled` meets its contract: by what waits, and whether it has now taken enough.
+-- `step::settled` meets its contract: by what waits.
 -- Assumes nothing.
 use mathlib.Core.Path.{_≡_, subst}
 use Prim.Native.Nat.{_+_, _≤_}
@@ -7,9 +7,9 @@ use borrow.Author.Needs.{needs}
 use lib.IntN.{ℤ}
 use Rattle.voice.specs.declared.Waiting.{Waiting}
 use Rattle.voice.specs.declared.Head.{Head}
-use Rattle.voice.specs.Valid.{Waits, Waiting-valid}
+use Rattle.voice.specs.Valid.{Preparing, Waiting-valid}
 use Rattle.step.specs.Sample.{Settles}
-use Rattle.step.proofs.Settles.{settles-idle, settles-now, settles-later}
+use Rattle.step.proofs.Settles.{settles-idle, settles}
 use Rattle.step.proofs.settled.Statement.{statement}
 use Rattle.step.proofs.settled.Tie as tie
 
@@ -21,7 +21,7 @@ module _ (c : tie.After-w) where
   abbrev h : Head
   h = c .before .before .args .h
 
-  waits : Waits (h .filter .tuning .order) (h .advance) (c .w .given .0 .0) (c .w .given .0 .1 .0)
+  waits : Preparing (h .filter .tuning .order) (h .advance) (c .w .given .0 .0) (c .w .given .0 .1 .0)
   waits =
       subst (λ (w : Waiting). Waiting-valid (h .filter .tuning .order) (h .advance) w) (c .w .given .1)
       (c .before .before .pre .1)
@@ -38,38 +38,23 @@ enum-known-w c = search needs
 moved-requires : tie.Need-moved-requires
 moved-requires c κs = (waits (c .before) .tuned, c .before .before .before .pre .2)
 
-add-if1 : tie.Need-add-if1
-add-if1 c = omega (arith, few (c .before .before))
+add-settle : tie.Need-add-settle
+add-settle c = omega (arith, few (c .before .before))
 
-with-requires : tie.Need-with-requires
-with-requires c κs = search needs
+settle-requires : tie.Need-settle-requires
+settle-requires c κs = search needs
 
 returns : tie.Need-returns
-returns c =
-    let m = c .before .before .before in
-    let a = m .before .before in
-    settles-as (a .w .given .1) (c .with .ensures)
-    (settles-now (a .before .before .pre .0) (waits a) (m .moved .ensures) (c .before .if1 .taken))
-
-add-t9 : tie.Need-add-t9
-add-t9 c = omega (arith, few (c .before .before .before .before .before))
-
-with-requires-2 : tie.Need-with-requires-2
-with-requires-2 c κs = search needs
+returns c = rw (c .enum-told .given .1) (settles-idle (c .before .before .pre .0))
 
 returns-2 : tie.Need-returns-2
-returns-2 c = rw (c .enum-told .given .1) (settles-idle (c .before .before .pre .0))
-
-returns-3 : tie.Need-returns-3
-returns-3 c =
-    let m = c .before .before .before .before in
+returns-2 c =
+    let m = c .before in
     let a = m .before .before in
-    settles-as (a .w .given .1) (c .with2 .ensures)
-    (settles-later (a .before .before .pre .0) (waits a) (m .moved .ensures) (c .before .before .if1 .left))
+    settles-as (a .w .given .1) (c .settle .ensures)
+    (settles (a .before .before .pre .0) (waits a) (m .moved .ensures))
 
 pub settled-spec : {M : Type 1} → statement M
 settled-spec =
     tie.close
-    (tie.spec enum-told enum-known-w moved-requires add-if1 with-requires returns add-t9 with-requires-2
-    returns-2
-    returns-3)
+    (tie.spec enum-told enum-known-w moved-requires add-settle settle-requires returns returns-2)

@@ -15,7 +15,7 @@ use Rattle.thiran.specs.declared.formula.Coefficients.{Coefficients}
 use Rattle.thiran.specs.Coefficients.{coefficients}
 use Rattle.thiran.specs.Answers.{padded}
 use Rattle.thiran.proofs.Lists.{coefficient-small}
-use Rattle.thiran.proofs.Refusals.{takes, answer-refused, answer-taken}
+use Rattle.thiran.proofs.Refusals.{takes, design-refused, design-taken}
 use Rattle.thiran.proofs.coefficients.Statement.{statement}
 use Rattle.thiran.proofs.coefficients.Tie as tie
 
@@ -62,7 +62,7 @@ returns c =
     let s = c .before .before .args in
     let e = c .before .refused .ensures in
     ap (λ (n : ℕ). record { refusal = n; a1 = pos 0; a2 = pos 0 }) e
-    ∙ sym (answer-refused (s .order) (s .d) (λ z. c .if1 .taken (e ∙ z)))
+    ∙ sym (design-refused (s .order) (s .d) (λ z. c .if1 .taken (e ∙ z)))
 
 set-requires : tie.Need-set-requires
 set-requires c κs = taken c
@@ -76,7 +76,7 @@ cast-t7 c = second (c .before .before .before .before) .0
 returns-2 : tie.Need-returns-2
 returns-2 c =
     let b = c .before .before .before .before in
-    rw (first b .1, second b .1) (sym (answer-taken (N (b .before)) (d (b .before)) (taken (b .before))))
+    rw (first b .1, second b .1) (sym (design-taken (N (b .before)) (d (b .before)) (taken (b .before))))
 
 pub coefficients-spec : {M : Type 1} → statement M
 coefficients-spec = tie.close (tie.spec refused-requires returns set-requires cast-t6 cast-t7 returns-2)

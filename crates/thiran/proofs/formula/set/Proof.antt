@@ -13,7 +13,7 @@ use mir.Facts.{toZ-ofZ}
 use Rattle.integer.specs.Rounding.{nearest}
 use Rattle.integer.proofs.View.{abs-fits}
 use Rattle.refusal.specs.Orders.{orders}
-use Rattle.thiran.specs.declared.formula.Part.{Part}
+use Rattle.thiran.specs.declared.formula.Ratio.{Ratio}
 use Rattle.thiran.specs.Coefficients.{coefficients}
 use Rattle.thiran.specs.Steps.{part, Roundable}
 use Rattle.thiran.specs.Answers.{padded}
@@ -29,11 +29,11 @@ module _ (c : tie.Start) where
   abbrev d : ℕ
   d = c .args .d
 
-  fraction-roundable : (k : ℕ) {p : Part} → k ≤ orders → p ≡ part N d k → Roundable p
+  fraction-roundable : (k : ℕ) {p : Ratio} → k ≤ orders → p ≡ part N d k → Roundable p
   fraction-roundable k h e = subst Roundable (sym e) (roundable N d (c .pre) k h)
 
   -- the fraction of index k + 1, rounded, is the coefficient at place k
-  rounded-at : (k : ℕ) {p : Part} {z : ℤ}
+  rounded-at : (k : ℕ) {p : Ratio} {z : ℤ}
       → p ≡ part N d (suc k)
       → z ≡ nearest (pos 65536 *ℤ p .top) (p .bottom)
       → toZ w64 (ofZ w64 z) ≡ getD (coefficients N d) k (pos 0)

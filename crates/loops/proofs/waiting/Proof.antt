@@ -1,4 +1,4 @@
--- `loops::leading` meets its contract: the invariant is `Rendered`, of the head carried on with its change.
+-- `loops::waiting` meets its contract: the invariant is `Rendered`, of the head carried on with its change.
 -- Assumes nothing.
 use mathlib.Core.Path.{_≡_, sym, ap, subst, _∙_}
 use Prim.Native.Nat.{_+_, _-_, _≤_}
@@ -12,21 +12,21 @@ use Rattle.voice.specs.declared.Filter.{Filter}
 use Rattle.voice.specs.declared.Waiting.{Waiting}
 use Rattle.voice.specs.declared.Waiting.the-variants.{Announced}
 use Rattle.voice.specs.declared.Head.{Head}
-use Rattle.voice.specs.Struct.{withOf, stateOf}
-use Rattle.voice.specs.Valid.{Tuned, Waits, Waiting-valid, Valid}
+use Rattle.voice.specs.Struct.{withOf, settledOf, stateOf}
+use Rattle.voice.specs.Valid.{Tuned, Preparing, Waiting-valid, Valid}
 use Rattle.voice.proofs.Within.{read-within}
 use Rattle.line.specs.Ring.{ring}
 use Rattle.step.specs.Sample.{Moved}
-use Rattle.loops.specs.Carried.{anewOf, carriedOf, dueOf}
-use Rattle.loops.proofs.Passes.{Reached, started, reads, more, ended}
+use Rattle.loops.specs.Carried.{anewOf, carriedOf}
+use Rattle.loops.proofs.Passes.{Passed, started, reads, more, ended}
 use Rattle.loops.proofs.Carrying.{as-anew, led-steps, due-later, due-self, due-as}
-use Rattle.loops.proofs.leading.Statement.{statement}
-use Rattle.loops.proofs.leading.Tie as tie
+use Rattle.loops.proofs.waiting.Statement.{statement}
+use Rattle.loops.proofs.waiting.Tie as tie
 
 abbrev Inv-loop : tie.InvT-loop
 Inv-loop line₀ order h e taken buffer₀ v₀ u₀ last₀ at₀ i₀ line buffer v u last at i =
-    let d = dueOf (carriedOf h (anewOf order (h .filter) v) last at) (anewOf order e u) (taken + i) in
-    Reached buffer₀ (stateOf h line₀) buffer d line i
+    let d = settledOf (carriedOf h (anewOf order (h .filter) v) last at) (anewOf order e u) (taken + i) in
+    Passed buffer₀ (stateOf h line₀) buffer d line i
 
 abbrev μ-loop : tie.MeasureT-loop
 μ-loop line₀ order h e taken buffer₀ v₀ u₀ last₀ at₀ i₀ line buffer v u last at i = length buffer₀ - i
@@ -37,7 +37,7 @@ loop-holds c =
     let h = s .args .h in
     let e = s .args .e in
     let t = s .args .taken in
-    let w : Waits (h .filter .tuning .order) (h .advance) e t
+    let w : Preparing (h .filter .tuning .order) (h .advance) e t
     = subst (λ (w : Waiting). Waiting-valid (h .filter .tuning .order) (h .advance) w) (s .pre .1 .1)
     (s .pre .0 .0 .fit .waiting) in
     let z : t + 0 ≡ t = omega arith in
@@ -67,12 +67,12 @@ module _ (c : tie.After-read Inv-loop μ-loop) where
   abbrev begins : State
   begins = stateOf (start .args .h) (start .args .line .now)
 
-  waits : dueOf quiet eliminator (start .args .taken + pass .loop .i) ≡ head
+  waits : settledOf quiet eliminator (start .args .taken + pass .loop .i) ≡ head
   waits =
       due-later quiet eliminator (start .args .taken + pass .loop .i)
       (omega (arith, start .pre .0 .2, pass .loop .inv .0 .long, c .before .before .loop-test .taken))
 
-  so-far : Reached (start .args .buffer .now) begins (pass .loop .buffer) head (pass .loop .line)
+  so-far : Passed (start .args .buffer .now) begins (pass .loop .buffer) head (pass .loop .line)
       (pass .loop .i)
   so-far = rw waits at (pass .loop .inv)
 
@@ -180,11 +180,11 @@ returns c =
     let left = c .before .before .before .loop-test .left in
     let end : s .args .taken + n ≡ s .args .taken + l .i = omega (arith, i .long, i .within) in
     ended (l .inv) left
-    (ap (λ (k : Head). dueOf k (c .anew4 .result) (s .args .taken + n)) (c .before .carried .ensures)
+    (ap (λ (k : Head). settledOf k (c .anew4 .result) (s .args .taken + n)) (c .before .carried .ensures)
     ∙ due-as h (l .last) (l .at) (c .before .before .anew3 .ensures) (c .anew4 .ensures) end)
 
-pub leading-spec : {M : Type 1} → statement M
-leading-spec =
+pub waiting-spec : {M : Type 1} → statement M
+waiting-spec =
     tie.close
     (tie.spec
     Inv-loop

@@ -1,4 +1,4 @@
--- `loops::quiet` meets its contract: the invariant is `Rendered`, of the head that is carried on.
+-- `loops::idle` meets its contract: the invariant is `Rendered`, of the head that is carried on.
 -- Assumes nothing.
 use mathlib.Core.Path.{sym, ap, subst, _∙_}
 use Prim.Native.Nat.{_-_, _≤_}
@@ -12,15 +12,15 @@ use Rattle.voice.specs.declared.Head.{Head}
 use Rattle.voice.specs.Struct.{stateOf}
 use Rattle.voice.specs.Valid.{Tuned}
 use Rattle.loops.specs.Carried.{anewOf, carriedOf}
-use Rattle.loops.proofs.Passes.{Reached, started, reads, more, ended}
+use Rattle.loops.proofs.Passes.{Passed, started, reads, more, ended}
 use Rattle.loops.proofs.Carrying.{as-anew, anew-self, carried-self, quiet-steps}
-use Rattle.loops.proofs.quiet.Statement.{statement}
-use Rattle.loops.proofs.quiet.Tie as tie
+use Rattle.loops.proofs.idle.Statement.{statement}
+use Rattle.loops.proofs.idle.Tie as tie
 
 abbrev Inv-loop : tie.InvT-loop
 Inv-loop line₀ order h buffer₀ v₀ last₀ at₀ i₀ line buffer v last at i =
     let c = carriedOf h (anewOf order (h .filter) v) last at in
-    Reached buffer₀ (stateOf h line₀) buffer c line i
+    Passed buffer₀ (stateOf h line₀) buffer c line i
 
 abbrev μ-loop : tie.MeasureT-loop
 μ-loop line₀ order h buffer₀ v₀ last₀ at₀ i₀ line buffer v last at i = length buffer₀ - i
@@ -107,8 +107,8 @@ returns c =
     ended (l .inv) (c .before .before .loop-test .left)
     (c .carried .ensures ∙ ap (λ (f : Filter). carriedOf h f (l .last) (l .at)) (c .before .anew2 .ensures))
 
-pub quiet-spec : {M : Type 1} → statement M
-quiet-spec =
+pub idle-spec : {M : Type 1} → statement M
+idle-spec =
     tie.close
     (tie.spec
     Inv-loop

@@ -1,9 +1,9 @@
--- `loops::carried::due` meets its contract: by whether the eliminator has taken enough.
+-- `voice::settle` meets its contract: by whether the eliminator has taken enough.
 -- Assumes nothing.
 use borrow.Author.Needs.{needs}
 use borrow.Author.Tests.{eq-eqb, ne-eqb}
-use Rattle.loops.proofs.carried.due.Statement.{statement}
-use Rattle.loops.proofs.carried.due.Tie as tie
+use Rattle.voice.proofs.settle.Statement.{statement}
+use Rattle.voice.proofs.settle.Tie as tie
 
 with-requires : tie.Need-with-requires
 with-requires c κs = search needs
@@ -23,5 +23,5 @@ returns-2 c =
     let a = s .args in
     rw (ne-eqb (a .taken) (a .h .advance) (c .before .before .if1 .left)) (c .with2 .ensures)
 
-pub due-spec : {M : Type 1} → statement M
-due-spec = tie.close (tie.spec with-requires returns with-requires-2 returns-2)
+pub settle-spec : {M : Type 1} → statement M
+settle-spec = tie.close (tie.spec with-requires returns with-requires-2 returns-2)
