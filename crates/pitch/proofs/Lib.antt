@@ -1,5 +1,4 @@
 mod Table
 pub mod Theorems
-pub mod Refusals
 mod Quotient
 pub mod Returns

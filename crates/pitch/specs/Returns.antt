@@ -1,5 +1,5 @@
--- What `note` returns, in ≤ and document 01's numbers: of `pitch`, which its contract says it returns. T, L and d
--- are the paper's conditions; no table. Statements alone: proofs/Returns.antt proves `Returns`. Assumes nothing.
+-- What `note` returns, in ≤ and document 01's numbers: of `pitch`, which its contract says it returns. T, L
+-- and d are the paper's conditions, no table. proofs/Returns.antt proves `Returns`. Assumes nothing.
 use mathlib.Core.Path.{_≡_}
 use mathlib.Core.Logic.{_↔_}
 use Prim.Native.Nat.{ℕ, _+_, _*_, _-_, _^_, _<_}
@@ -41,7 +41,8 @@ pub record Long (L : ℤ) : Type 0 where
   pub least : pos 1 ≤ℤ L
   pub most : L ≤ℤ pos 2048
 
--- "Note: 1, 11 rate outside 8,000 to 192,000, 12 note above 127, 13 L outside 1 to 2,048"; "L and d come back 0"
+-- "Note: 1, 11 rate outside 8,000 to 192,000, 12 note above 127, 13 L outside 1 to 2,048; L and d come back
+-- 0"
 module _ (N fs m : ℕ) where
   pub record Notes (r : Pitch) : Type 0 where
     pub order : (r .refusal ≡ 1) ↔ (Between 1 N 2 → ⊥)

@@ -1,12 +1,17 @@
 // What a program prints: gathered in a buffer, which goes to standard output when little room is left in it.
-// A place is how many bytes the buffer holds; 4,097 says that standard output took no more.
+// A place is how many bytes the buffer holds; 4,097 says that standard output took no more. Each function
+// that appends says what the buffer holds afterwards (specs/Printed.antt).
+ghost use mathlib.Core.List.{[], _∷_};
 ghost use Prim.Native.Nat.{_≤_};
+ghost use lib.ListN.{take};
+ghost use Rattle.print.specs.Printed.{Went, Room, Printed, Number, Numbers, Signed, Signeds, Line};
 use integer::Value;
 use libc::STDOUT_FILENO;
 
 // Writes what the buffer holds.
 pub fn flush(buffer: &[u8; 4096], at: usize) -> usize
     ensures { λ r. ⌜ r ≤ 4097 ⌝ }
+    ensures { λ r. ⌜ Went r ⌝ }
 {
     let s: &[u8] = buffer;
     if s.len() < at {
@@ -21,6 +26,7 @@ pub fn flush(buffer: &[u8; 4096], at: usize) -> usize
 // Makes room for 64 bytes at least.
 fn room(buffer: &[u8; 4096], at: usize) -> usize
     ensures { λ r. ⌜ r ≤ 4097 ⌝ }
+    ensures { λ r. ⌜ Room at r ⌝ }
 {
     if at <= 4_032 {
         return at;
@@ -31,6 +37,7 @@ fn room(buffer: &[u8; 4096], at: usize) -> usize
 // A text of at most 64 bytes.
 pub fn bytes(buffer: &mut [u8; 4096], at: usize, s: &[u8]) -> usize
     ensures { λ r. ⌜ r ≤ 4097 ⌝ }
+    ensures { λ r. ⌜ Printed (now (s .entry)) (now (buffer .entry)) at (now (buffer .exit)) r ⌝ }
 {
     let a = room(buffer, at);
     write::bytes(buffer, a, s)
@@ -39,6 +46,7 @@ pub fn bytes(buffer: &mut [u8; 4096], at: usize, s: &[u8]) -> usize
 // A number, behind a blank.
 pub fn number(buffer: &mut [u8; 4096], at: usize, n: u64) -> usize
     ensures { λ r. ⌜ r ≤ 4097 ⌝ }
+    ensures { λ r. ⌜ Number n (now (buffer .entry)) at (now (buffer .exit)) r ⌝ }
 {
     let a = bytes(buffer, at, b" ");
     write::number(buffer, a, n)
@@ -47,6 +55,7 @@ pub fn number(buffer: &mut [u8; 4096], at: usize, n: u64) -> usize
 // A number of 32 bits, behind a blank.
 pub fn short(buffer: &mut [u8; 4096], at: usize, n: u32) -> usize
     ensures { λ r. ⌜ r ≤ 4097 ⌝ }
+    ensures { λ r. ⌜ Number n (now (buffer .entry)) at (now (buffer .exit)) r ⌝ }
 {
     number(buffer, at, n as u64)
 }
@@ -54,6 +63,7 @@ pub fn short(buffer: &mut [u8; 4096], at: usize, n: u32) -> usize
 // Two and three of them.
 pub fn pair(buffer: &mut [u8; 4096], at: usize, m: u32, n: u32) -> usize
     ensures { λ r. ⌜ r ≤ 4097 ⌝ }
+    ensures { λ r. ⌜ Numbers (m ∷ n ∷ []) (now (buffer .entry)) at (now (buffer .exit)) r ⌝ }
 {
     let a = short(buffer, at, m);
     short(buffer, a, n)
@@ -61,6 +71,7 @@ pub fn pair(buffer: &mut [u8; 4096], at: usize, m: u32, n: u32) -> usize
 
 pub fn triple(buffer: &mut [u8; 4096], at: usize, l: u32, m: u32, n: u32) -> usize
     ensures { λ r. ⌜ r ≤ 4097 ⌝ }
+    ensures { λ r. ⌜ Numbers (l ∷ m ∷ n ∷ []) (now (buffer .entry)) at (now (buffer .exit)) r ⌝ }
 {
     let a = short(buffer, at, l);
     pair(buffer, a, m, n)
@@ -69,6 +80,7 @@ pub fn triple(buffer: &mut [u8; 4096], at: usize, l: u32, m: u32, n: u32) -> usi
 // A number with a sign, behind a blank.
 pub fn signed(buffer: &mut [u8; 4096], at: usize, x: Value) -> usize
     ensures { λ r. ⌜ r ≤ 4097 ⌝ }
+    ensures { λ r. ⌜ Signed (x .n) (now (buffer .entry)) at (now (buffer .exit)) r ⌝ }
 {
     let a = bytes(buffer, at, b" ");
     write::signed(buffer, a, x)
@@ -77,6 +89,7 @@ pub fn signed(buffer: &mut [u8; 4096], at: usize, x: Value) -> usize
 // A number with a sign, on a line.
 pub fn line(buffer: &mut [u8; 4096], at: usize, x: Value) -> usize
     ensures { λ r. ⌜ r ≤ 4097 ⌝ }
+    ensures { λ r. ⌜ Line (x .n) (now (buffer .entry)) at (now (buffer .exit)) r ⌝ }
 {
     let a = room(buffer, at);
     let b = write::signed(buffer, a, x);
@@ -86,6 +99,7 @@ pub fn line(buffer: &mut [u8; 4096], at: usize, x: Value) -> usize
 // A number of 32 bits with a sign, behind a blank.
 pub fn short_signed(buffer: &mut [u8; 4096], at: usize, x: i32) -> usize
     ensures { λ r. ⌜ r ≤ 4097 ⌝ }
+    ensures { λ r. ⌜ Signed x (now (buffer .entry)) at (now (buffer .exit)) r ⌝ }
 {
     signed(buffer, at, Value { n: x as i64 })
 }
@@ -93,6 +107,8 @@ pub fn short_signed(buffer: &mut [u8; 4096], at: usize, x: i32) -> usize
 // The first samples of an output, as many as count.
 pub fn samples(buffer: &mut [u8; 4096], at: usize, output: &[i32; 16384], count: usize) -> usize
     ensures { λ r. ⌜ (at ≤ 4097 → r ≤ 4097) ⌝ }
+    ensures { λ r. ⌜ Signeds (take count (now (output .entry))) (now (buffer .entry)) at
+        (now (buffer .exit)) r ⌝ }
 {
     let s: &[i32] = output;
     let mut a = at;

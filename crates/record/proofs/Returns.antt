@@ -173,8 +173,10 @@ module _ (m : ℕ) (t : List ℕ) where
         subst (λ (f : List ℕ). Accepted m t f (rest s)) (taken-fields s z)
         (subst (λ (r : List ℕ). Accepted m t (0 ∷ read s) r) (taken-rest s z) (taken (sym z)));
     refused = λ f.
-        let g : n ≡ 0 → ⊥ = λ z. f (sym number-is ∙ z) in
-        (sym (refused-fields s refl g) ∙ ap (λ (k : ℕ). k ∷ replicate 8 0) number-is, sym (refused-rest s refl g));
+        let g : n ≡ 0 → ⊥ = λ z. f (sym number-is ∙ z) in (
+          sym (refused-fields s refl g) ∙ ap (λ (k : ℕ). k ∷ replicate 8 0) number-is,
+          sym (refused-rest s refl g),
+        );
   }
 
 pub returns : Returns

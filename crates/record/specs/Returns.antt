@@ -1,5 +1,5 @@
--- What `read_record` returns, in ≤, bits and bytes: of `fields` and `rest`, which its contract says it leaves and
--- hands back. Statements alone: proofs/Returns.antt proves `Returns`. Assumes nothing.
+-- What `read_record` returns, in ≤, bits and bytes: of `fields` and `rest`, which its contract says it leaves
+-- and hands back. Statements alone: proofs/Returns.antt proves `Returns`. Assumes nothing.
 use mathlib.Core.Path.{_≡_}
 use mathlib.Core.Logic.{_↔_}
 use mathlib.Core.List.{List, [], _∷_}
@@ -28,8 +28,8 @@ pub record Field (s : List ℕ) (m k at v : ℕ) : Type 0 where
 
 -- reading the bytes m ∷ t leaves the numbers f and hands back the part r
 module _ (m : ℕ) (t : List ℕ) where
-  -- of a record that is accepted: "lowest bit first: bit 0 wait in samples; 1 L; 2 d; 3 G; 4 amplitude; 5 count;
-  -- 6 seed", and "the part of the score after that record"
+  -- of a record that is accepted: "lowest bit first, .. bit 0 wait in samples; 1 L; 2 d; 3 G; 4 amplitude;
+  -- 5 count; 6 seed", and "the part of the score after that record"
   pub record Accepted (f r : List ℕ) : Type 0 where
     pub many : length f ≡ 9
     pub map : getD f 1 0 ≡ m

@@ -29,7 +29,9 @@ ranges = record {
   order-1 = (refl, refl);
   order-2 = (refl, refl);
   takes = λ N d. (
-    λ t. in-range N d (record { least = t .least; most = t .most }) (record { least = t .low; most = t .high }),
+    λ t.
+        in-range N d (record { least = t .least; most = t .most })
+        (record { least = t .low; most = t .high }),
     λ i.
         let o = ordered i in
         let b = delayed i in

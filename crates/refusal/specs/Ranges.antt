@@ -1,5 +1,5 @@
--- The orders and the delays that they take, in document 01's own numbers; and what a routine returns that tests
--- both. Statements alone: proofs/Ranges.antt shows that they are those of specs/Orders.antt. Assumes nothing.
+-- The orders and the delays that they take, in document 01's own numbers; and what a routine returns that
+-- tests both. Statements alone: proofs/Ranges.antt has them of specs/Orders.antt. Assumes nothing.
 use mathlib.Core.Path.{_≡_}
 use mathlib.Core.Logic.{_↔_}
 use Prim.Native.Nat.{ℕ}

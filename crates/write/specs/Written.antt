@@ -14,10 +14,11 @@ pub record Wrote (t before : List ℕ) (at : ℕ) (after : List ℕ) (r : ℕ) :
       at + length t ≤ length before → (r ≡ at + length t) × (after ≡ paste before at t (length t))
   pub full : length before < at + length t → (r ≡ at) × (after ≡ before)
 
--- a number, in as few decimal digits as it has
+-- a number, in as few decimal digits as it has; one of 64 bits has at most 20
 pub record Spelled (n : ℕ) (before : List ℕ) (at : ℕ) (after : List ℕ) (r : ℕ) : Type 0 where
   pub places : ℕ
   pub fewest : Fewest 10 1 n places
+  pub most : places ≤ 20
   pub wrote : Wrote (digits 10 places n) before at after r
 
 -- a `-` and then the number

@@ -1,5 +1,5 @@
--- `noise::draw` meets its contract, by a walk of its MIR: the struct in a local is lent for a lifetime that is
--- made for the call of `Noise::draw`, and comes back at the state that it left.
+-- `noise::draw` meets its contract, by a walk of its MIR: the struct in a local is lent for a lifetime that
+-- is made for the call of `Noise::draw`, and comes back at the state that it left.
 -- Assumes nothing.
 mod Called
 use mathlib.Core.Path.{_≡_, refl, ap}
@@ -20,8 +20,8 @@ use prog.Wp.{Heap, Calls, Loops, WpFn, Tables}
 use ghost.Atoms.{Atoms, sem}
 use contract.Monad.{Fun}
 use contract.Running.{givenOf, tables, tablesOf}
-use types.Kit.{Given, ‵, raw, _⊛_, some, given, later, _$_, _∵_, !, qed, by, move, keep, drop, use1, use2, use3}
-use types.Kit.{rewrite, split, pick, learn, fsplit, fjoin, suffices, await, done}
+use types.Kit.{Given, ‵, raw, _⊛_, some, given, later, _$_, _∵_, !, qed, by, move, keep, drop}
+use types.Kit.{use1, use2, use3, rewrite, split, pick, learn, fsplit, fjoin, suffices, await, done}
 use types.Tokens.{lft-new, lft-end}
 use types.Run.{look, init, forget, stop, fld, from, load, of-opd, addr, and-then, no-more, assigns, land}
 use types.Run.{returns, enter, alloc1, alloc0, params1, pass1, pass0, free1, free0}
@@ -104,11 +104,11 @@ module _ {M : Type 1} (𝓤 : URA M) (H : Heap 𝓤) (A : Atoms 𝓤) (W : Given
     walk C Λ fm known =
         qed W (‵ ftrue ∷ ‵ (owns (u32 ∷ []) (n, tt) (vint w32 n ∷ [], tt)) ∷ []) ∵
         enter ! C Λ code.function (vint w32 n ∷ []) _ $
-        alloc1 ! (λ l₀. alloc1 ! (λ l₁. alloc1 ! (λ l₂. alloc1 ! (λ l₃. alloc1 ! (λ l₄. alloc1 ! (λ l₅. alloc0 ! $
-        params1 ! $ pass1 ! (init ! 8 refl (tt, record { fits = fits })) $ pass0 ! $
+        alloc1 ! (λ l₀. alloc1 ! (λ l₁. alloc1 ! (λ l₂. alloc1 ! (λ l₃. alloc1 ! (λ l₄. alloc1 ! (λ l₅.
+        alloc0 ! $ params1 ! $ pass1 ! (init ! 8 refl (tt, record { fits = fits })) $ pass0 ! $
         -- [_5; …; _4; …; _3; …; _2; …; _1; …; _0; …; true; the parameter]: the struct, and its address
-        assigns ! (agg ! (and-then ! (load ! (from ! (stop !)) (look ! 8 refl)) (no-more !))) (from ! (stop !))
-        (init ! 6 refl (tt, (record { fits = fits }, tt))) $
+        assigns ! (agg ! (and-then ! (load ! (from ! (stop !)) (look ! 8 refl)) (no-more !)))
+        (from ! (stop !)) (init ! 6 refl (tt, (record { fits = fits }, tt))) $
         assigns ! (addr ! (from ! (stop !))) (from ! (stop !)) (init ! 2 refl (tt, tt)) $
         -- it is lent for a lifetime that is made here
         owned ! T.the-row (Is T.the-row) (LL.makes T.the-type T′.the-plain 𝓤 H A) (noise n) (val n ∷ [])
@@ -119,7 +119,8 @@ module _ {M : Type 1} (𝓤 : URA M) (H : Heap 𝓤) (A : Atoms 𝓤) (W : Given
         ⊛ ‵ (flent (α ∷ []) (Body (mem T.the-row) l₂ 0 γ)))))
         (lends-ref 𝓤 H A W T.the-row (named 0) (α ∷ []) (noise n) l₂ 0) $ await ! tt $ pick ! (λ γ. split ! $
         move ! (2 ∷ 0 ∷ []) $
-        use2 W (raw (Lent .pre (lent.passed 𝓤 H A W at-mem run α l₂ γ n))) (lent.asks 𝓤 H A W at-mem run α l₂ γ n) $
+        use2 W (raw (Lent .pre (lent.passed 𝓤 H A W at-mem run α l₂ γ n)))
+        (lent.asks 𝓤 H A W at-mem run α l₂ γ n) $
         -- [what is asked; the lender's part; _5; …; _4; …; _3; …; …; _1; …; _0; …; true; the parameter]
         calls-at ! fm Lent known (lent.passed 𝓤 H A W at-mem run α l₂ γ n)
         (and-then ! (load ! (from ! (stop !)) (look ! 4 refl)) (no-more !)) (λ v.
@@ -127,7 +128,8 @@ module _ {M : Type 1} (𝓤 : URA M) (H : Heap 𝓤) (A : Atoms 𝓤) (W : Given
         ⊛ raw (lent.Ensured 𝓤 H A W at-mem run α l₂ γ n r)))) (id⊢ 𝓤 _) $ await ! tt $ pick ! (λ r. split ! $
         move ! (1 ∷ []) $
         use1 W (given (r ≡ value (next n)) (‵ (fres γ (T.the-row .coded .code (noise (next n))))))
-        (lent.says 𝓤 H A W at-mem run α l₂ γ n r) $ learn ! (λ e. move ! (1 ∷ []) $ split ! $ move ! (1 ∷ []) $
+        (lent.says 𝓤 H A W at-mem run α l₂ γ n r) $
+        learn ! (λ e. move ! (1 ∷ []) $ split ! $ move ! (1 ∷ []) $
         rewrite ! 0 (λ (z : ℤ). ‵ (i32 .own z (v ∷ []))) e refl $
         peeks ! i32 (Is i32) (shows 𝓤 H A i32) (value (next n)) (v ∷ []) (λ is. drop ! $ split ! $
         -- [the token; true; the struct's last value; the lender's part; _5; …; _4; …; _3; …; …; _1; …; _0; …]

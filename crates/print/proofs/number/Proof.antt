@@ -1,6 +1,7 @@
--- `print::number` meets its contract: the place stays within 4,097.
+-- `print::number` meets its contract: a blank, and then the digits.
 -- Assumes nothing.
 use Rattle.write.proofs.Places.{spelled-within}
+use Rattle.print.proofs.Texts.{numbered}
 use borrow.Author.Needs.{needs}
 use Rattle.print.proofs.number.Statement.{statement}
 use Rattle.print.proofs.number.Tie as tie
@@ -15,7 +16,11 @@ number-requires : tie.Need-number-requires
 number-requires c κs = search needs
 
 returns : tie.Need-returns
-returns c = spelled-within 4097 (c .number .ensures) (search needs) (search needs)
+returns c =
+    let b = c .before .before .bytes .ensures in (
+      spelled-within 4097 (c .number .ensures) (b .0) (search needs),
+      numbered (search needs) (b .1) (c .number .ensures),
+    )
 
 pub number-spec : {M : Type 1} → statement M
 number-spec = tie.close (tie.spec slice-aggregate-bytes bytes-requires number-requires returns)

@@ -12,7 +12,9 @@ signed-requires : tie.Need-signed-requires
 signed-requires c κs = search needs
 
 returns : tie.Need-returns
-returns c = search needs
+returns c =
+    let f = c .before .before .fits .x in
+    (c .signed .ensures .0, rw (toZ-ofZ f, toZ-ofZ (sfits-widen tt f)) at (c .signed .ensures .1))
 
 pub short-signed-spec : {M : Type 1} → statement M
 short-signed-spec = tie.close (tie.spec cast-t5 signed-requires returns)

@@ -1,6 +1,7 @@
--- `print::signed` meets its contract: the place stays within 4,097.
+-- `print::signed` meets its contract: a blank, and then the sign and the digits.
 -- Assumes nothing.
 use Rattle.write.proofs.Places.{signed-within}
+use Rattle.print.proofs.Texts.{signed}
 use borrow.Author.Needs.{needs}
 use Rattle.print.proofs.signed.Statement.{statement}
 use Rattle.print.proofs.signed.Tie as tie
@@ -17,10 +18,12 @@ signed-requires c κs = search needs
 returns : tie.Need-returns
 returns c =
     let b = c .before .before in
-    signed-within (b .before .before .before .args .x .n) (b .bytes .last .0) (c .signed .last .0) 4097
-    (c .signed .ensures)
-    (b .bytes .ensures)
-    (search needs)
+    let x = b .before .before .before .args .x .n in
+    let p = b .bytes .ensures in (
+      signed-within x (b .bytes .last .0) (c .signed .last .0) 4097 (c .signed .ensures) (p .0)
+          (search needs),
+      signed x (search needs) (p .1) (c .signed .ensures),
+    )
 
 pub signed-spec : {M : Type 1} → statement M
 signed-spec = tie.close (tie.spec slice-aggregate-bytes bytes-requires signed-requires returns)

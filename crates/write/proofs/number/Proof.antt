@@ -5,6 +5,7 @@ use mathlib.Core.List.{List}
 use Prim.Native.Nat.{ℕ}
 use borrow.Author.Needs.{needs}
 use Rattle.write.specs.Written.{Wrote}
+use Rattle.write.proofs.Places.{most}
 use Rattle.write.proofs.number.Statement.{statement}
 use Rattle.write.proofs.number.Tie as tie
 
@@ -32,6 +33,7 @@ returns c =
     record {
       places = d .decimal .result;
       fewest = e .1 .0;
+      most = most (a .n) (d .decimal .result) (d .before .before .before .fits .n .fits) (e .1 .0);
       wrote = subst
           (λ (t : List ℕ). Wrote t (a .buffer .now) (a .at) (b .bytes .last .0) (b .bytes .result))
           (e .1 .1) (b .bytes .ensures);

@@ -46,14 +46,18 @@ module _ {M : Type 1} (𝓤 : URA M) (H : Heap 𝓤) (A : Atoms 𝓤) (W : Given
     abbrev pub lies : Fml
     lies = mem T.the-row .lies (noise n) b 0
 
-    pub laid : ent 𝓤 (sep 𝓤 (sem 𝓤 H A cell) (sem 𝓤 H A (T.the-row .own (noise n) (val n ∷ [])))) (sem 𝓤 H A lies)
+    abbrev held : Fml
+    held = T.the-row .own (noise n) (val n ∷ [])
+
+    pub laid : ent 𝓤 (sep 𝓤 (sem 𝓤 H A cell) (sem 𝓤 H A held)) (sem 𝓤 H A lies)
     unfolding partOf
     laid =
-        qed W (‵ cell ∷ ‵ (T.the-row .own (noise n) (val n ∷ [])) ∷ []) ∵
-        use1 W (‵ (cellAt fullShare (T.the-row .mir) (val n ∷ []) b 0)) (W .laws .at-raw fullShare T′.mir b 0 (val n)) $
-        fjoin ! $
-        fpack ! (List Val) (λ us. fsep (cellAt fullShare (T.the-row .mir) us b 0) (T.the-row .own (noise n) us))
-        (val n ∷ []) $ done !
+        qed W (‵ cell ∷ ‵ held ∷ []) ∵
+        use1 W (‵ (cellAt fullShare (T.the-row .mir) (val n ∷ []) b 0))
+        (W .laws .at-raw fullShare T′.mir b 0 (val n)) $ fjoin ! $
+        fpack ! (List Val)
+        (λ us. fsep (cellAt fullShare (T.the-row .mir) us b 0) (T.the-row .own (noise n) us)) (val n ∷ []) $
+        done !
 
     pub taken : ent 𝓤 (sem 𝓤 H A lies) (sem 𝓤 H A cell)
     unfolding partOf
@@ -88,7 +92,8 @@ module _ {M : Type 1} (𝓤 : URA M) (H : Heap 𝓤) (A : Atoms 𝓤) (W : Given
 
     -- the draw, and the struct's last value
     pub says : (r : ℤ)
-        → ent 𝓤 (Ensured r) (guard 𝓤 (r ≡ value (next n)) (A .res γ (T.the-row .coded .code (noise (next n)))))
+        → ent 𝓤 (Ensured r)
+        (guard 𝓤 (r ≡ value (next n)) (A .res γ (T.the-row .coded .code (noise (next n)))))
     says r = exE 𝓤 _ (λ ws.
         let φ : Type 0 = (r ≡ value (next n)) × (ws .0 .state ≡ next n) in
         let L : SProp 𝓤 = sem 𝓤 H A (lasts lent.ended (α ∷ [], tt) (ref, tt) ws) in
