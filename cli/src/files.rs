@@ -10,11 +10,38 @@ const STANDARD: &str = "-";
 
 pub fn read(path: &Path) -> Outcome<Vec<u8>> {
     let mut bytes = Vec::new();
-    let done = match path == Path::new(STANDARD) {
+    let done = match is_standard(path) {
         true => io::stdin().lock().read_to_end(&mut bytes),
         false => File::open(path).and_then(|mut file| file.read_to_end(&mut bytes)),
     };
     done.map(|_| bytes).map_err(|error| Failure::file("read", path, &error))
+}
+
+/// What messages call a file that is read.
+pub fn input_name(path: &Path) -> String {
+    named(path, "standard input")
+}
+
+/// What messages call a file that is written.
+pub fn output_name(path: &Path) -> String {
+    named(path, "standard output")
+}
+
+fn named(path: &Path, standard: &str) -> String {
+    match is_standard(path) {
+        true => String::from(standard),
+        false => path.display().to_string(),
+    }
+}
+
+/// A score is not overwritten by what is made of it.
+pub fn refuse_same(input: &Path, output: &Path) -> Outcome {
+    match (fs::canonicalize(input), fs::canonicalize(output)) {
+        (Ok(from), Ok(to)) if from == to && to.is_file() => {
+            Err(Failure::input(format!("{} would be overwritten: name another", input.display())))
+        }
+        _ => Ok(()),
+    }
 }
 
 /// Writes to standard output; a reader that has gone away ends the program without a word.

@@ -2,11 +2,13 @@
 //! score, its record reader, its notes and its writer of WAV files. Files and words are done here.
 
 pub mod arguments;
+pub mod bytes;
 pub mod click;
 pub mod commands;
 pub mod decimal;
 pub mod failure;
 pub mod files;
+pub mod note;
 pub mod number;
 pub mod pitch;
 pub mod progress;

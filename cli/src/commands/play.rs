@@ -17,6 +17,7 @@ const PIECE: usize = 1 << 18;
 pub fn run(arguments: &Arguments) -> Outcome {
     let file = arguments.file("play", "a score")?;
     let output = arguments.output("play", "TAKE.wav")?;
+    files::refuse_same(file, &output)?;
     let tune = Tune::load(file, arguments.rate()?)?;
     let take = tune.run()?;
     let parts: Vec<&[i32]> = match take.is_empty() {
@@ -72,7 +73,7 @@ fn write(names: &[PathBuf], parts: &[&[i32]], rate: u32) -> Outcome {
 fn report(names: &[PathBuf], take: &[i32], rate: u32) {
     let files = match names {
         [first, .., last] => format!("{} to {}", first.display(), last.display()),
-        _ => names.iter().map(|name| name.display().to_string()).collect(),
+        _ => names.iter().map(|name| files::output_name(name)).collect(),
     };
     eprintln!("{files}: {}", duration(take.len(), rate));
     if let Some(clipped) = take::clipped(take) {

@@ -11,6 +11,9 @@ use crate::number::counted;
 use crate::score::{Change, Header, Record};
 use crate::tuning::Tuning;
 
+/// What the lines after a faulty `tune` are read with.
+const ANY_TUNING: Tuning = Tuning { length: 1, delay: 4_096 };
+
 /// Where the parts of a record come from.
 #[derive(Clone, Copy, Debug, Default)]
 pub struct Origin {
@@ -67,8 +70,7 @@ impl Compiler {
         } else if let Some(word) = line.accept(&["loss"]) {
             self.heading(&word, &mut line)?;
         } else {
-            // The events after this one are read as if there had been a tuning.
-            self.open(Tuning { length: 1, delay: 4_096 }, start);
+            self.open(ANY_TUNING, start);
             return Err(Fault::new(start, "a line `tune A4` must stand before the first event"));
         }
         line.finish()
@@ -77,10 +79,9 @@ impl Compiler {
     fn tempo(&mut self, word: &Word, line: &mut Line) -> Result<(), Fault> {
         let value = line.next("beats a minute")?;
         let tempo = Decimal::parse(value.text).filter(|tempo| !tempo.is_zero());
-        self.settings.tempo = tempo;
-        tempo.map(|_| ()).ok_or_else(|| {
-            value.fault(format!("`{}` is no {}, in beats a minute", value.text, word.text))
-        })
+        self.settings.tempo = tempo.or(self.settings.tempo);
+        let wrong = || format!("`{}` is no {}, in beats a minute", value.text, word.text);
+        tempo.map(|_| ()).ok_or_else(|| value.fault(wrong()))
     }
 
     fn heading(&mut self, word: &Word, line: &mut Line) -> Result<(), Fault> {
@@ -99,7 +100,7 @@ impl Compiler {
         }
         let spot = line.spot();
         let tuning = tunings::tuning(line, &self.settings);
-        self.open(*tuning.as_ref().unwrap_or(&Tuning { length: 1, delay: 4_096 }), spot);
+        self.open(*tuning.as_ref().unwrap_or(&ANY_TUNING), spot);
         tuning.map(|_| ())
     }
 
