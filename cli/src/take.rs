@@ -21,9 +21,12 @@ pub fn length(bytes: &[u8]) -> u64 {
     waits.map(u64::from).sum()
 }
 
+/// The longest take, in samples: 4 GiB of memory, six hours at 48,000 samples a second.
+const LONGEST: u64 = 1 << 30;
+
 /// Room for so many samples, if there is memory for them.
 pub fn room(length: u64) -> Option<Vec<i32>> {
-    let length = usize::try_from(length).ok()?;
+    let length = usize::try_from(Some(length).filter(|&length| length <= LONGEST)?).ok()?;
     let mut samples = Vec::new();
     samples.try_reserve_exact(length).ok()?;
     samples.resize(length, 0);

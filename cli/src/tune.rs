@@ -49,7 +49,7 @@ impl Tune {
         let length = take::length(&self.bytes);
         let room = take::room(length).ok_or_else(|| {
             let length = grouped(length);
-            Failure::input(format!("{}: no memory for a take of {length} samples", self.name))
+            Failure::input(format!("{}: a take of {length} samples is too long", self.name))
         })?;
         take::run(&self.bytes, room).map_err(|refused| Failure::input(self.refused(refused)))
     }

@@ -17,7 +17,7 @@ pub fn run(arguments: &Arguments) -> Outcome {
         eprintln!("{name} does not keep the rate: play it with -r {}", tune.rate);
     }
     if let Err(refused) = tune.run() {
-        eprintln!("{}\n{name} is written, but a run of it ends there", refused.message);
+        eprintln!("{name} is written, but cannot be played:\n{}", refused.message);
     }
     Ok(())
 }
