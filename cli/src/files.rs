@@ -121,3 +121,31 @@ pub fn write(path: &Path, bytes: &[u8]) -> Outcome {
     file.write(bytes)?;
     file.keep()
 }
+
+#[cfg(test)]
+mod tests {
+    use super::*;
+
+    #[test]
+    fn a_file_is_there_whole_or_not_at_all() {
+        let folder = std::env::temp_dir().join(format!("jivaszte-files-{}", std::process::id()));
+        fs::create_dir(&folder).unwrap();
+        let path = folder.join("take.wav");
+        let left = || fs::read_dir(&folder).unwrap().count();
+        let mut dropped = NewFile::create(&path).unwrap();
+        dropped.write(b"half").unwrap();
+        assert!(left() == 1 && !path.exists());
+        drop(dropped);
+        assert_eq!(left(), 0);
+        write(&path, b"whole").unwrap();
+        write(&path, b"again").unwrap();
+        assert_eq!((left(), fs::read(&path).unwrap()), (1, b"again".to_vec()));
+        assert!(refuse_same(
+            &path,
+            &folder.join("../").join(folder.file_name().unwrap()).join("take.wav")
+        )
+        .is_err());
+        assert_eq!(refuse_same(&path, &folder.join("other")), Ok(()));
+        fs::remove_dir_all(&folder).unwrap();
+    }
+}

@@ -80,3 +80,18 @@ fn report(names: &[PathBuf], take: &[i32], rate: u32) {
         eprintln!("{}", clipped.words(rate));
     }
 }
+
+#[cfg(test)]
+mod tests {
+    use super::*;
+
+    #[test]
+    fn parts_are_numbered_in_the_order_of_their_names() {
+        let of = |output, parts| names(Path::new(output), parts);
+        assert_eq!(of("a/take.wav", 1), [Path::new("a/take.wav")]);
+        assert_eq!(of("a/take.wav", 2), ["a/take-1.wav", "a/take-2.wav"].map(Path::new));
+        assert_eq!(of("take", 2), ["take-1", "take-2"].map(Path::new));
+        let many = of("x.y.wav", 10);
+        assert_eq!((&many[0], &many[9]), (&"x.y-01.wav".into(), &"x.y-10.wav".into()));
+    }
+}
