@@ -1,9 +1,10 @@
-//! Files: read whole, and written whole or not at all.
+//! Files and the standard streams, read and written whole.
 
 use crate::failure::{Failure, Outcome};
+use crate::new_file::NewFile;
 use std::fs::{self, File};
 use std::io::{self, Read, Write};
-use std::path::{Path, PathBuf};
+use std::path::Path;
 
 /// The name that stands for standard input and standard output.
 const STANDARD: &str = "-";
@@ -61,57 +62,6 @@ pub fn is_standard(path: &Path) -> bool {
     path == Path::new(STANDARD)
 }
 
-/// A file being written. It has a temporary name beside its own until it is kept, and is removed
-/// where it is not. What is no plain file, as /dev/null, is written to as it stands.
-pub struct NewFile {
-    target: PathBuf,
-    temporary: Option<PathBuf>,
-    file: File,
-}
-
-impl NewFile {
-    pub fn create(path: &Path) -> Outcome<NewFile> {
-        let failed = |error: io::Error| Failure::file("write", path, &error);
-        let found = fs::metadata(path);
-        if found.as_ref().is_ok_and(|found| !found.is_file() && !found.is_dir()) {
-            let file = File::options().write(true).open(path).map_err(failed)?;
-            return Ok(NewFile { target: path.into(), temporary: None, file });
-        }
-        if found.is_ok_and(|found| found.is_dir()) {
-            return Err(failed(io::ErrorKind::IsADirectory.into()));
-        }
-        let target = fs::canonicalize(path).unwrap_or_else(|_| path.into());
-        let mut name = target.file_name().unwrap_or_default().to_os_string();
-        name.push(format!(".{}.part", std::process::id()));
-        let temporary = target.with_file_name(name);
-        let file = File::options().write(true).create_new(true).open(&temporary).map_err(failed)?;
-        Ok(NewFile { target, temporary: Some(temporary), file })
-    }
-
-    pub fn write(&mut self, bytes: &[u8]) -> Outcome {
-        self.file.write_all(bytes).map_err(|error| Failure::file("write", &self.target, &error))
-    }
-
-    /// Gives the file its name, once all of it is on the disk.
-    pub fn keep(mut self) -> Outcome {
-        let failed = |error: io::Error| Failure::file("write", &self.target, &error);
-        if let Some(temporary) = &self.temporary {
-            self.file.sync_all().map_err(failed)?;
-            fs::rename(temporary, &self.target).map_err(failed)?;
-            self.temporary = None;
-        }
-        Ok(())
-    }
-}
-
-impl Drop for NewFile {
-    fn drop(&mut self) {
-        if let Some(temporary) = &self.temporary {
-            let _ = fs::remove_file(temporary);
-        }
-    }
-}
-
 /// Writes a whole file, or to standard output.
 pub fn write(path: &Path, bytes: &[u8]) -> Outcome {
     if is_standard(path) {
@@ -120,32 +70,4 @@ pub fn write(path: &Path, bytes: &[u8]) -> Outcome {
     let mut file = NewFile::create(path)?;
     file.write(bytes)?;
     file.keep()
-}
-
-#[cfg(test)]
-mod tests {
-    use super::*;
-
-    #[test]
-    fn a_file_is_there_whole_or_not_at_all() {
-        let folder = std::env::temp_dir().join(format!("jivaszte-files-{}", std::process::id()));
-        fs::create_dir(&folder).unwrap();
-        let path = folder.join("take.wav");
-        let left = || fs::read_dir(&folder).unwrap().count();
-        let mut dropped = NewFile::create(&path).unwrap();
-        dropped.write(b"half").unwrap();
-        assert!(left() == 1 && !path.exists());
-        drop(dropped);
-        assert_eq!(left(), 0);
-        write(&path, b"whole").unwrap();
-        write(&path, b"again").unwrap();
-        assert_eq!((left(), fs::read(&path).unwrap()), (1, b"again".to_vec()));
-        assert!(refuse_same(
-            &path,
-            &folder.join("../").join(folder.file_name().unwrap()).join("take.wav")
-        )
-        .is_err());
-        assert_eq!(refuse_same(&path, &folder.join("other")), Ok(()));
-        fs::remove_dir_all(&folder).unwrap();
-    }
 }

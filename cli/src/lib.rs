@@ -8,6 +8,7 @@ pub mod commands;
 pub mod decimal;
 pub mod failure;
 pub mod files;
+pub mod new_file;
 pub mod note;
 pub mod number;
 pub mod pitch;

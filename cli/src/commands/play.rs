@@ -2,7 +2,8 @@
 
 use crate::arguments::Arguments;
 use crate::failure::{Failure, Outcome};
-use crate::files::{self, NewFile};
+use crate::files;
+use crate::new_file::NewFile;
 use crate::number::{duration, grouped};
 use crate::progress::Progress;
 use crate::refusal;
