@@ -1,7 +1,8 @@
 //! The pitch at which a tuned voice sounds, worked out from its coefficients.
 
 use crate::proved;
-use crate::tuning::Tuning;
+use crate::refusal;
+use crate::tuning::{Tuning, LENGTHS};
 use std::f64::consts::TAU;
 
 /// Units of a coefficient.
@@ -19,8 +20,11 @@ fn filter_delay(coefficients: &[f64], angle: f64) -> f64 {
 }
 
 /// The lowest frequency that comes back in phase after one turn of the loop, in hertz: the line's
-/// length, the filter's delay and the loop filter's half sample are one period.
+/// length, the filter's delay and the loop filter's half sample are one period. Refuses by 1, 2, 3.
 pub fn hertz(order: u32, rate: u32, tuning: Tuning) -> Result<f64, u32> {
+    if !LENGTHS.contains(&tuning.length.into()) {
+        return Err(refusal::LENGTH);
+    }
     let (a1, a2) = proved::coefficients(order, tuning.delay.into())?;
     let coefficients: Vec<f64> =
         [a1, a2].iter().take(order as usize).map(|&a| f64::from(a) / ONE).collect();

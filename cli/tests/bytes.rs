@@ -4,6 +4,7 @@ mod common;
 
 use common::Random;
 use jivaszte::score::{Change, Header, Pluck, Record, Score};
+use jivaszte::take;
 use jivaszte::text::{compile, show};
 use jivaszte::tuning::{delays, Tuning, ORDERS};
 
@@ -98,7 +99,7 @@ fn bytes_to_text_and_back() {
     }
 }
 
-/// Any bytes: read to the end and shown, or refused by 14 or 15.
+/// Any bytes: read to the end and shown, or refused by 14 or 15, and then a run refuses them too.
 #[test]
 fn any_bytes() {
     let (mut read, mut refused) = (0, 0);
@@ -115,6 +116,8 @@ fn any_bytes() {
             Err(damage) => {
                 refused += 1;
                 assert!([14, 15].contains(&damage.refusal), "seed {seed}");
+                let room = take::room(take::length(&bytes)).unwrap();
+                assert!(take::run(&bytes, room).is_err(), "seed {seed}");
             }
         }
     }
