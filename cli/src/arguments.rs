@@ -1,0 +1,149 @@
+//! The words of a call: its files or names, and its options.
+
+use crate::failure::{Failure, Outcome};
+use crate::tuning::{ORDERS, RATES};
+use std::ffi::OsString;
+use std::ops::RangeInclusive;
+use std::path::{Path, PathBuf};
+
+/// The options: the letter, the long name, and what follows it.
+const OPTIONS: [(char, &str, &str); 4] = [
+    ('o', "output", "a file"),
+    ('r', "rate", "a rate"),
+    ('n', "order", "an order"),
+    ('d', "delay", "a delay"),
+];
+
+#[derive(Debug, Default, PartialEq, Eq)]
+pub struct Arguments {
+    /// The words that are no options.
+    pub words: Vec<OsString>,
+    values: Vec<(char, OsString)>,
+    pub help: bool,
+}
+
+impl Arguments {
+    /// Reads the words of a command that takes the options of these letters.
+    pub fn read(command: &str, given: &[OsString], letters: &str) -> Outcome<Arguments> {
+        let mut arguments = Arguments::default();
+        let mut given = given.iter();
+        let mut plain = false;
+        while let Some(word) = given.next() {
+            match word.to_str() {
+                Some("--") if !plain => plain = true,
+                Some("--help" | "-h") if !plain => arguments.help = true,
+                Some(text) if !plain && text.starts_with('-') && text != "-" => {
+                    let (letter, value) = option(command, text, letters)?;
+                    let value = value.or_else(|| given.next().cloned());
+                    let value = value.ok_or_else(|| missing(text, letter))?;
+                    if arguments.values.iter().any(|(before, _)| *before == letter) {
+                        return Err(Failure::call(format!("{text} is given twice")));
+                    }
+                    arguments.values.push((letter, value));
+                }
+                _ => arguments.words.push(word.clone()),
+            }
+        }
+        Ok(arguments)
+    }
+
+    fn value(&self, letter: char) -> Option<&OsString> {
+        self.values.iter().find(|(given, _)| *given == letter).map(|(_, value)| value)
+    }
+
+    /// The only word, a file.
+    pub fn file(&self, command: &str, what: &str) -> Outcome<&Path> {
+        match &self.words[..] {
+            [file] => Ok(Path::new(file)),
+            [] => Err(Failure::call(format!("{command} needs {what}"))),
+            _ => Err(Failure::call(format!("{command} takes one file"))),
+        }
+    }
+
+    pub fn output(&self, command: &str, what: &str) -> Outcome<PathBuf> {
+        let output = self.value('o').map(PathBuf::from);
+        output.ok_or_else(|| Failure::call(format!("{command} needs -o {what}")))
+    }
+
+    pub fn rate(&self) -> Outcome<Option<u32>> {
+        self.number('r', "the rate", RATES)
+    }
+
+    pub fn order(&self) -> Outcome<Option<u32>> {
+        self.number('n', "the order", ORDERS)
+    }
+
+    pub fn delay(&self, delays: RangeInclusive<u32>) -> Outcome<Option<u32>> {
+        self.number('d', "the delay", delays)
+    }
+
+    fn number(&self, letter: char, what: &str, range: RangeInclusive<u32>) -> Outcome<Option<u32>> {
+        let Some(value) = self.value(letter) else { return Ok(None) };
+        let number = value.to_str().and_then(|text| text.parse().ok());
+        number.filter(|number| range.contains(number)).map(Some).ok_or_else(|| {
+            let (value, low, high) = (value.to_string_lossy(), range.start(), range.end());
+            Failure::call(format!("{what} is {low} to {high}, not `{value}`"))
+        })
+    }
+}
+
+/// The letter of an option, and its value where the same word has it: `-r48000`, `--rate=48000`.
+fn option(command: &str, text: &str, letters: &str) -> Outcome<(char, Option<OsString>)> {
+    let found = OPTIONS.iter().filter(|(letter, ..)| letters.contains(*letter));
+    let read = |letter: char, long: &str| {
+        let (name, value) = match text.strip_prefix("--") {
+            Some(rest) => {
+                (rest.split('=').next() == Some(long), text.split_once('=').map(|(_, v)| v))
+            }
+            None => {
+                (text[1..].starts_with(letter), text.get(2..).filter(|value| !value.is_empty()))
+            }
+        };
+        name.then(|| (letter, value.map(OsString::from)))
+    };
+    let mut found = found.filter_map(|(letter, long, _)| read(*letter, long));
+    found.next().ok_or_else(|| Failure::call(format!("{command} has no option {text}")))
+}
+
+fn missing(text: &str, letter: char) -> Failure {
+    let what = OPTIONS.iter().find(|(name, ..)| *name == letter).map_or("a value", |found| found.2);
+    Failure::call(format!("{text} needs {what}"))
+}
+
+#[cfg(test)]
+mod tests {
+    use super::*;
+
+    fn read(words: &[&str]) -> Outcome<Arguments> {
+        let words: Vec<OsString> = words.iter().map(OsString::from).collect();
+        Arguments::read("play", &words, "or")
+    }
+
+    #[test]
+    fn options_stand_anywhere_and_in_every_form() {
+        let forms: [&[&str]; 5] = [
+            &["tune", "-o", "a", "-r", "48000"],
+            &["-oa", "-r48000", "tune"],
+            &["--output", "a", "--rate", "48000", "tune"],
+            &["--rate=48000", "--output=a", "--", "tune"],
+            &["-r", "48000", "tune", "-o", "a"],
+        ];
+        for form in forms {
+            let call = read(form).unwrap();
+            assert_eq!(call.file("play", "a tune").unwrap(), Path::new("tune"));
+            assert_eq!(call.output("play", "TAKE.wav").unwrap(), Path::new("a"));
+            assert_eq!(call.rate().unwrap(), Some(48_000));
+        }
+        assert_eq!(read(&["--", "-o"]).unwrap().words, ["-o"]);
+        assert_eq!(read(&["-", "-h"]).unwrap().words, ["-"]);
+    }
+
+    #[test]
+    fn wrong_calls() {
+        for wrong in [&["-x"][..], &["-n", "1"], &["-o"], &["-o", "a", "-ob"], &["--out", "a"]] {
+            assert_eq!(read(wrong).unwrap_err().status, 2, "{wrong:?}");
+        }
+        assert_eq!(read(&["-r", "7999"]).unwrap().rate().unwrap_err().status, 2);
+        assert_eq!(read(&["a", "b"]).unwrap().file("play", "a tune").unwrap_err().status, 2);
+    }
+}

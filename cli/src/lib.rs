@@ -1,0 +1,26 @@
+//! Scores in words, and takes as WAV files. What sounds comes from the proved library: its run of a
+//! score, its record reader, its notes and its writer of WAV files. Files and words are done here.
+
+pub mod arguments;
+pub mod bytes;
+pub mod click;
+pub mod commands;
+pub mod decimal;
+pub mod failure;
+pub mod files;
+pub mod new_file;
+pub mod note;
+pub mod number;
+pub mod pitch;
+pub mod progress;
+#[rustfmt::skip]
+#[path = "../../examples/jivaszte.rs"]
+pub mod proved;
+pub mod refusal;
+pub mod score;
+pub mod sounding;
+pub mod take;
+pub mod text;
+pub mod tune;
+pub mod tuning;
+pub mod wav;

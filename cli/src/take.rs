@@ -1,0 +1,102 @@
+//! A take: what the proved run of a score puts out.
+
+use crate::bytes::{records, HEADER_BYTES};
+use crate::number::counted;
+use crate::proved;
+
+/// M, the greatest sample.
+pub const FULL_SCALE: i32 = 8_388_607;
+
+/// A run that was refused: the number, and the index of the record, or none for the header.
+#[derive(Clone, Copy, Debug, PartialEq, Eq)]
+pub struct Refused {
+    pub refusal: u32,
+    pub record: Option<usize>,
+}
+
+/// The samples that the waits of a score take, as far as it can be read.
+pub fn length(bytes: &[u8]) -> u64 {
+    let waits =
+        records(bytes).map_while(|(_, record)| record.ok()).filter_map(|record| record.wait);
+    waits.map(u64::from).sum()
+}
+
+/// The longest take, in samples: 4 GiB of memory, six hours at 48,000 samples a second.
+const LONGEST: u64 = 1 << 30;
+
+/// Room for so many samples, if there is memory for them.
+pub fn room(length: u64) -> Option<Vec<i32>> {
+    let length = usize::try_from(Some(length).filter(|&length| length <= LONGEST)?).ok()?;
+    let mut samples = Vec::new();
+    samples.try_reserve_exact(length).ok()?;
+    samples.resize(length, 0);
+    Some(samples)
+}
+
+/// Runs a score into room that is long enough; gives the samples written.
+pub fn run(bytes: &[u8], mut room: Vec<i32>) -> Result<Vec<i32>, Refused> {
+    let played = proved::run(bytes, &mut room);
+    room.truncate(played.written);
+    match played.refusal {
+        0 => Ok(room),
+        refusal if opens(bytes) => Err(Refused { refusal, record: Some(played.place) }),
+        refusal => Err(Refused { refusal, record: None }),
+    }
+}
+
+/// Whether the header alone is accepted: the place of a refused header is that of record 0.
+fn opens(bytes: &[u8]) -> bool {
+    bytes.get(..HEADER_BYTES).is_some_and(|header| proved::run(header, &mut []).refusal == 0)
+}
+
+/// The samples that are as great as a sample can be: how many, and the first of them.
+#[derive(Clone, Copy, Debug, PartialEq, Eq)]
+pub struct Clipped {
+    count: usize,
+    first: usize,
+}
+
+pub fn clipped(samples: &[i32]) -> Option<Clipped> {
+    let full = |sample: &i32| sample.abs() >= FULL_SCALE;
+    let first = samples.iter().position(full)?;
+    Some(Clipped { count: samples.iter().filter(|sample| full(sample)).count(), first })
+}
+
+impl Clipped {
+    pub fn words(&self, rate: u32) -> String {
+        let (count, at) =
+            (counted(self.count as u64, "sample"), self.first as f64 / f64::from(rate));
+        format!("clipped: {count} at full scale, the first at {at:.3} s: pluck more softly")
+    }
+}
+
+#[cfg(test)]
+mod tests {
+    use super::*;
+
+    const PAPER: [u8; 16] = [1, 0, 3, 0, 0, 16, 0, 128, 48, 1, 0, 1, 0, 1, 10, 0];
+
+    #[test]
+    fn the_papers_score() {
+        assert_eq!(length(&PAPER), 10);
+        let take = run(&PAPER, room(10).unwrap());
+        assert_eq!(take, Ok(vec![0, 0, 0, 0, -17_298, 0, 0, 0, -4_324, -4_324]));
+        assert_eq!(length(&PAPER[..15]), 0);
+    }
+
+    #[test]
+    fn refusals_have_their_place() {
+        let refused = |bytes: &[u8], room| run(bytes, vec![0; room]).unwrap_err();
+        assert_eq!(refused(&PAPER, 9), Refused { refusal: 16, record: Some(1) });
+        assert_eq!(refused(&PAPER[..7], 9), Refused { refusal: 14, record: None });
+        assert_eq!(refused(&[1, 0, 0, 0, 0, 16, 0, 0], 9), Refused { refusal: 2, record: None });
+        let length_0 = [1, 0, 3, 0, 0, 16, 0, 0, 2, 0, 0];
+        assert_eq!(refused(&length_0, 9), Refused { refusal: 2, record: Some(0) });
+    }
+
+    #[test]
+    fn counts_what_is_clipped() {
+        assert_eq!(clipped(&[0, FULL_SCALE - 1]), None);
+        assert_eq!(clipped(&[0, -FULL_SCALE, 5, FULL_SCALE]), Some(Clipped { count: 2, first: 1 }));
+    }
+}

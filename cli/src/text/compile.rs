@@ -1,0 +1,55 @@
+//! Text to a score, with the places that its parts come from.
+
+use super::compiler::{Compiler, Origin};
+use super::header::HeaderSpots;
+use super::line::{Fault, Line, Spot};
+use crate::refusal;
+use crate::score::Score;
+
+/// A score, its rate, and where in the text its parts come from.
+#[derive(Debug)]
+pub struct Compiled {
+    pub score: Score,
+    pub rate: u32,
+    header: HeaderSpots,
+    origins: Vec<Origin>,
+}
+
+impl Compiled {
+    /// The place in the text of what a run refuses at a record, or at the header.
+    pub fn spot(&self, refusal: u32, record: Option<usize>) -> Spot {
+        let Some(origin) = record.and_then(|record| self.origins.get(record)) else {
+            return self.header.spot(refusal);
+        };
+        match refusal {
+            refusal::LENGTH | refusal::DELAY | refusal::CHANGE_WAITS => origin.change,
+            refusal::AMPLITUDE | refusal::COUNT => origin.pluck,
+            _ => origin.start,
+        }
+    }
+}
+
+/// Compiles a text; `rate` takes the place of the text's. All lines that are wrong are told.
+pub fn compile(text: &str, rate: Option<u32>) -> Result<Compiled, Vec<Fault>> {
+    let mut compiler = Compiler::new(rate);
+    let text = text.strip_prefix('\u{FEFF}').unwrap_or(text);
+    let lines = (1..).zip(text.lines());
+    let mut faults: Vec<Fault> =
+        lines.filter_map(|(number, line)| compiler.line(Line::new(number, line)).err()).collect();
+    match compiler.header {
+        Some((header, spots)) if faults.is_empty() => Ok(Compiled {
+            score: Score { header, records: compiler.records },
+            rate: compiler.settings.rate,
+            header: spots,
+            origins: compiler.origins,
+        }),
+        None if faults.is_empty() => {
+            let end = Spot { line: text.lines().count().max(1), column: 1 };
+            Err(vec![Fault::new(end, "the text has no line `tune A4`")])
+        }
+        _ => {
+            faults.sort_by_key(|fault| fault.spot.line);
+            Err(faults)
+        }
+    }
+}

@@ -1,0 +1,157 @@
+//! The lines of a text, one after the other: settings, then events, whose records are gathered.
+
+use super::event::Event;
+use super::header::{Draft, HeaderSpots};
+use super::line::{Fault, Line, Spot, Word};
+use super::slide::Slide;
+use super::tunings;
+use super::values::Settings;
+use crate::decimal::Decimal;
+use crate::number::counted;
+use crate::score::{Change, Header, Record};
+use crate::tuning::Tuning;
+
+/// What the lines after a faulty `tune` are read with.
+const ANY_TUNING: Tuning = Tuning { length: 1, delay: 4_096 };
+
+/// Where the parts of a record come from.
+#[derive(Clone, Copy, Debug, Default)]
+pub struct Origin {
+    pub start: Spot,
+    pub change: Spot,
+    pub pluck: Spot,
+}
+
+/// The lines read so far.
+pub struct Compiler {
+    rate: Option<u32>,
+    draft: Draft,
+    pub settings: Settings,
+    pub header: Option<(Header, HeaderSpots)>,
+    /// The tuning of the last change.
+    tuning: Tuning,
+    /// Samples up to here, and those up to which an announced change waits.
+    now: u64,
+    waits_until: u64,
+    pub records: Vec<Record>,
+    pub origins: Vec<Origin>,
+}
+
+impl Compiler {
+    pub fn new(rate: Option<u32>) -> Compiler {
+        let draft = Draft::default();
+        Compiler {
+            rate,
+            settings: draft.settings(rate),
+            draft,
+            header: None,
+            tuning: Tuning::default(),
+            now: 0,
+            waits_until: 0,
+            records: Vec::new(),
+            origins: Vec::new(),
+        }
+    }
+
+    pub fn line(&mut self, mut line: Line) -> Result<(), Fault> {
+        if line.is_empty() {
+            return Ok(());
+        }
+        let start = line.spot();
+        if let Some(word) = line.accept(&["tempo"]) {
+            self.tempo(&word, &mut line)?;
+        } else if let Some(word) = line.accept(&["rate", "order", "advance", "tune"]) {
+            self.heading(&word, &mut line)?;
+        } else if self.header.is_some() {
+            match line.accept(&["slide"]) {
+                Some(word) => self.slide(&word, &mut line)?,
+                None => self.event(start, &mut line)?,
+            }
+        } else if let Some(word) = line.accept(&["loss"]) {
+            self.heading(&word, &mut line)?;
+        } else {
+            self.open(ANY_TUNING, start);
+            return Err(Fault::new(start, "a line `tune A4` must stand before the first event"));
+        }
+        line.finish()
+    }
+
+    fn tempo(&mut self, word: &Word, line: &mut Line) -> Result<(), Fault> {
+        let value = line.next("beats a minute")?;
+        let tempo = Decimal::parse(value.text).filter(|tempo| !tempo.is_zero());
+        self.settings.tempo = tempo.or(self.settings.tempo);
+        let wrong = || format!("`{}` is no {}, in beats a minute", value.text, word.text);
+        tempo.map(|_| ()).ok_or_else(|| value.fault(wrong()))
+    }
+
+    fn heading(&mut self, word: &Word, line: &mut Line) -> Result<(), Fault> {
+        if self.header.is_some() {
+            let name = word.text;
+            return Err(word.fault(match name {
+                "tune" => String::from("tune is set already: `to` or `jump` changes it"),
+                _ => format!("{name} must stand before `tune`"),
+            }));
+        }
+        if word.text != "tune" {
+            let done = self.draft.line(word, line);
+            self.settings =
+                Settings { tempo: self.settings.tempo, ..self.draft.settings(self.rate) };
+            return done;
+        }
+        let spot = line.spot();
+        let tuning = tunings::tuning(line, &self.settings);
+        self.open(*tuning.as_ref().unwrap_or(&ANY_TUNING), spot);
+        tuning.map(|_| ())
+    }
+
+    fn open(&mut self, tuning: Tuning, spot: Spot) {
+        self.header = Some(self.draft.header(tuning, spot));
+        self.tuning = tuning;
+    }
+
+    fn advance(&self) -> u64 {
+        self.header.map_or(0, |(header, _)| header.advance.into())
+    }
+
+    /// Adds a record that waits; a wait of more than 65,535 samples takes records of its own.
+    fn push(&mut self, wait: Option<u64>, mut record: Record, origin: Origin) {
+        let longest = u64::from(u16::MAX);
+        let mut rest = wait.unwrap_or(0);
+        self.now += rest;
+        while rest > longest {
+            self.records.push(Record { wait: Some(u16::MAX), ..Record::default() });
+            self.origins.push(Origin { start: origin.start, ..Origin::default() });
+            rest -= longest;
+        }
+        record.wait = wait.map(|_| rest as u16);
+        if let Some(Change { length, delay, instant }) = record.change {
+            self.tuning.length = length.unwrap_or(self.tuning.length);
+            self.tuning.delay = delay.unwrap_or(self.tuning.delay);
+            self.waits_until = if instant { self.now } else { self.now + self.advance() };
+        }
+        self.records.push(record);
+        self.origins.push(origin);
+    }
+
+    fn event(&mut self, start: Spot, line: &mut Line) -> Result<(), Fault> {
+        let Event { wait, record, change, pluck } = Event::read(line, &self.settings)?;
+        self.push(wait, record, Origin { start, change, pluck });
+        Ok(())
+    }
+
+    fn slide(&mut self, word: &Word, line: &mut Line) -> Result<(), Fault> {
+        let slide = Slide::read(line, &self.settings, self.advance(), self.tuning)?;
+        let calls = slide.calls().map_err(|message| word.fault(message))?;
+        let first = calls.first().map_or(0, |(wait, _)| *wait);
+        if let Some(late @ 1..) = self.waits_until.checked_sub(self.now + first) {
+            let more = counted(late, "sample");
+            return Err(word.fault(format!("the change before still waits: wait {more} more")));
+        }
+        let origin = Origin { start: word.spot, change: word.spot, pluck: word.spot };
+        for (wait, change) in calls {
+            let record = Record { change, ..Record::default() };
+            self.push(Some(wait).filter(|&wait| wait > 0), record, origin);
+        }
+        Ok(())
+    }
+}

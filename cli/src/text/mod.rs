@@ -1,0 +1,16 @@
+//! Scores as text: one line for each record of the score, in words. docs/SCORES.md has the grammar.
+
+mod compile;
+mod compiler;
+mod event;
+mod header;
+mod line;
+mod show;
+mod slide;
+mod tunings;
+mod values;
+
+pub use compile::{compile, Compiled};
+pub use line::{Fault, Spot};
+pub use show::show;
+pub use tunings::{asked, FORMS};

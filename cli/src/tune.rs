@@ -1,0 +1,100 @@
+//! A score from a file, text or bytes, and the words for what a run of it refuses.
+
+use crate::bytes::{records, Place};
+use crate::failure::{Failure, Outcome};
+use crate::files;
+use crate::number::grouped;
+use crate::refusal;
+use crate::take::{self, Refused};
+use crate::text::{compile, Compiled, Fault};
+use crate::tuning::DEFAULT_RATE;
+use std::path::Path;
+
+/// Text does not start with a byte below this one, the tab; bytes start with their order.
+const FIRST_OF_TEXT: u8 = b'\t';
+
+pub struct Tune {
+    name: String,
+    pub bytes: Vec<u8>,
+    pub rate: u32,
+    text: Option<Compiled>,
+}
+
+impl Tune {
+    /// Reads a file; a rate that is given takes the place of a text's own.
+    pub fn load(path: &Path, rate: Option<u32>) -> Outcome<Tune> {
+        let bytes = files::read(path)?;
+        match looks_like_text(&bytes) {
+            true => Tune::of_text(path, bytes, rate),
+            false => {
+                let rate = rate.unwrap_or(DEFAULT_RATE);
+                Ok(Tune { name: files::input_name(path), bytes, rate, text: None })
+            }
+        }
+    }
+
+    pub fn of_text(path: &Path, bytes: Vec<u8>, rate: Option<u32>) -> Outcome<Tune> {
+        let name = files::input_name(path);
+        let text = utf8(&name, bytes)?;
+        let compiled = compile(&text, rate).map_err(|faults| {
+            let lines: Vec<String> = faults.iter().map(|fault| located(&name, fault)).collect();
+            Failure::input(lines.join("\n"))
+        })?;
+        let (bytes, rate) = (compiled.score.encode(), compiled.rate);
+        Ok(Tune { name, bytes, rate, text: Some(compiled) })
+    }
+
+    /// Runs the score by the proved library; gives the take.
+    pub fn run(&self) -> Outcome<Vec<i32>> {
+        let length = take::length(&self.bytes);
+        let room = take::room(length).ok_or_else(|| {
+            let length = grouped(length);
+            Failure::input(format!("{}: a take of {length} samples is too long", self.name))
+        })?;
+        take::run(&self.bytes, room).map_err(|refused| Failure::input(self.refused(refused)))
+    }
+
+    /// What was refused, with its place: line and column of a text, index and offset of a record.
+    fn refused(&self, Refused { refusal, record }: Refused) -> String {
+        let words = self.words(refusal);
+        match &self.text {
+            Some(text) => located(&self.name, &Fault::new(text.spot(refusal, record), words)),
+            None => format!("{}: {}: {words}", self.name, self.place(record)),
+        }
+    }
+
+    fn words(&self, refusal: u32) -> String {
+        let words = refusal::message(refusal);
+        match (refusal, self.bytes.get(1)) {
+            (refusal::CHANGE_WAITS, Some(advance)) => {
+                let late = format!("{advance} samples (the advance)");
+                format!("{words}: an announced change takes effect {late} after it is called")
+            }
+            _ => words,
+        }
+    }
+
+    fn place(&self, record: Option<usize>) -> Place {
+        let of = |index| Some(Place::Record { index, offset: records(&self.bytes).nth(index)?.0 });
+        record.and_then(of).unwrap_or(Place::Header)
+    }
+}
+
+pub fn looks_like_text(bytes: &[u8]) -> bool {
+    bytes.first().is_none_or(|&first| first >= FIRST_OF_TEXT)
+}
+
+fn located(name: &str, fault: &Fault) -> String {
+    format!("{name}:{}:{}: {}", fault.spot.line, fault.spot.column, fault.message)
+}
+
+/// The text that bytes are, or the place of the first that is none.
+fn utf8(name: &str, bytes: Vec<u8>) -> Outcome<String> {
+    String::from_utf8(bytes).map_err(|error| {
+        let good = &error.as_bytes()[..error.utf8_error().valid_up_to()];
+        let before = String::from_utf8_lossy(good);
+        let line = before.matches('\n').count() + 1;
+        let column = before.rsplit('\n').next().unwrap_or_default().chars().count() + 1;
+        Failure::input(format!("{name}:{line}:{column}: this is no text in UTF-8"))
+    })
+}
