@@ -52,11 +52,11 @@ cast-smaller c = search needs
 smaller-requires : tie.Need-smaller-requires
 smaller-requires c κs = search needs
 
-slice-relend-prefix-ahead : tie.Need-slice-relend-prefix-ahead
-slice-relend-prefix-ahead c = search needs
+slice-relend-prefix-while-waiting : tie.Need-slice-relend-prefix-while-waiting
+slice-relend-prefix-while-waiting c = search needs
 
-slice-aggregate-ahead : tie.Need-slice-aggregate-ahead
-slice-aggregate-ahead c =
+slice-aggregate-while-waiting : tie.Need-slice-aggregate-while-waiting
+slice-aggregate-while-waiting c =
     let m = c .before .before in
     let s = start (m .before .before .before) in
     sym (length-take-le (m .smaller .result) (s .args .buffer .now) (m .smaller .ensures .0))
@@ -106,8 +106,8 @@ stretch-spec =
     sub-smaller
     cast-smaller
     smaller-requires
-    slice-relend-prefix-ahead
-    slice-aggregate-ahead
+    slice-relend-prefix-while-waiting
+    slice-aggregate-while-waiting
     while-waiting-requires
     same-length-2
     returns-2
