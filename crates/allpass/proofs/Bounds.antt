@@ -83,10 +83,6 @@ pub next-rest : (A : List ℤ) (N : ℕ) → next A (rest N) (pos 0) ≡ rest N
 unfolding next
 next-rest A N = rw (inner-rest A N (pos 0)) (shift-rest N)
 
-pub out-rest : (A : List ℤ) (N : ℕ) → out A (rest N) (pos 0) ≡ pos 0
-unfolding out clip
-out-rest A N = rw (next-rest A N, dot-rest (reverse A) N, R-zero, final-rest N)
-
 -- ---- lists that are close to each other
 dot-close : (A : List ℤ) {v u : List ℤ} {D : ℕ} → Close D v u → natAbs (dot A v -ℤ dot A u) ≤ norm A * D
 dot-close [] h = omega arith

@@ -11,6 +11,19 @@ ghost use Rattle.voice.specs.Struct.{stateOf};
 ghost use Rattle.voice.specs.Valid.{Fit, Valid};
 ghost use Rattle.follow.specs.Follow.{value, lossCalls, changeCalls, pluckCalls, actCalls, recordCalls};
 ghost use Rattle.follow.specs.Does.{Does};
+use record::AMPLITUDE;
+use record::COUNT;
+use record::DELAY;
+use record::HAS_AMPLITUDE;
+use record::HAS_COUNT;
+use record::HAS_DELAY;
+use record::HAS_LENGTH;
+use record::HAS_LOSS;
+use record::INSTANT;
+use record::LENGTH;
+use record::LOSS;
+use record::MAP;
+use record::SEED;
 use record::bit;
 use voice::Answer;
 use voice::Head;
@@ -21,13 +34,13 @@ fn set_loss(head: Head, r: &[u32; 9]) -> Answer
     ensures { λ a. ⌜ ((l : List ℤ) → Valid head l
         → Does head l (lossCalls (now (r .entry)) (stateOf head l)) a l) ⌝ }
 {
-    if bit(r[1], 8) == 0 {
+    if bit(r[MAP], HAS_LOSS) == 0 {
         return Answer {
             refusal: 0,
             head: head,
         };
     }
-    open::calls::loss(head, r[5])
+    open::calls::loss(head, r[LOSS])
 }
 
 // Changes L or d, where the record has one of them, to it and the other that is in force.
@@ -36,16 +49,16 @@ fn change(line: &[i32; 2112], head: Head, r: &[u32; 9]) -> Answer
     ensures { λ a. ⌜ Does head (now (line .entry))
         (changeCalls (now (r .entry)) (stateOf head (now (line .entry)))) a (now (line .entry)) ⌝ }
 {
-    let map = r[1];
-    if bit(map, 2) + bit(map, 4) == 0 {
+    let map = r[MAP];
+    if bit(map, HAS_LENGTH) + bit(map, HAS_DELAY) == 0 {
         return Answer {
             refusal: 0,
             head: head,
         };
     }
-    let length = chosen(bit(map, 2), r[3], head.filter.tuning.length);
-    let delay = chosen(bit(map, 4), r[4], head.filter.tuning.delay);
-    if bit(map, 128) == 0 {
+    let length = chosen(bit(map, HAS_LENGTH), r[LENGTH], head.filter.tuning.length);
+    let delay = chosen(bit(map, HAS_DELAY), r[DELAY], head.filter.tuning.delay);
+    if bit(map, INSTANT) == 0 {
         return change::announce(head, length, delay);
     }
     let c = change::instant(line, head, length, delay);
@@ -58,15 +71,15 @@ fn pluck(head: Head, r: &[u32; 9]) -> Answer
     ensures { λ a. ⌜ ((l : List ℤ) → Valid head l
         → Does head l (pluckCalls (now (r .entry)) (stateOf head l)) a l) ⌝ }
 {
-    let map = r[1];
-    if bit(map, 16) == 0 {
+    let map = r[MAP];
+    if bit(map, HAS_AMPLITUDE) == 0 {
         return Answer {
             refusal: 0,
             head: head,
         };
     }
-    let count = chosen(bit(map, 32), r[7], head.filter.tuning.length);
-    open::calls::pluck(head, r[6], count, r[8])
+    let count = chosen(bit(map, HAS_COUNT), r[COUNT], head.filter.tuning.length);
+    open::calls::pluck(head, r[AMPLITUDE], count, r[SEED])
 }
 
 // A field where its bit stands, else the number in its place.

@@ -13,11 +13,6 @@ use Rattle.integer.proofs.View.{+v, -v, *v, absv, near, Zs}
 abbrev pub times : {x y : ℕ} (k : ℕ) → x ≡ y → x * k ≡ y * k
 times k e = ap (λ (n : ℕ). n * k) e
 
-pub *-+ : (a b c : ℤ) → a *ℤ (b +ℤ c) ≡ a *ℤ b +ℤ a *ℤ c
-*-+ a b c =
-    let s = b +ℤ c in
-    omega (Zs, *v a s, *v a b, *v a c, +v (a *ℤ b) (a *ℤ c), times (up a) (+v b c), times (dn a) (+v b c))
-
 pub *-- : (a b c : ℤ) → a *ℤ (b -ℤ c) ≡ a *ℤ b -ℤ a *ℤ c
 *-- a b c =
     let s = b -ℤ c in
@@ -45,16 +40,6 @@ abs-+ a b = near (a +ℤ b) (omega (Zs, +v a b, absv a, absv b))
 
 pub abs-- : (a b : ℤ) → natAbs (a -ℤ b) ≤ natAbs a + natAbs b
 abs-- a b = near (a -ℤ b) (omega (Zs, -v a b, absv a, absv b))
-
--- the order
-pub ≤-trans : {a b c : ℤ} → a ≤ℤ b → b ≤ℤ c → a ≤ℤ c
-≤-trans {a} {b} {c} h k = omega Zs
-
-pub +-mono : {a b c d : ℤ} → a ≤ℤ b → c ≤ℤ d → (a +ℤ c) ≤ℤ (b +ℤ d)
-+-mono {a} {b} {c} {d} h k = omega (Zs, +v a c, +v b d)
-
-pub ≤-antisym : {a b : ℤ} → a ≤ℤ b → b ≤ℤ a → a ≡ b
-≤-antisym {a} {b} h k = omega Zs
 
 -- ---- how far apart two numbers are: what each operation does to a bound on it
 pub add-near : (x y s t : ℤ) {D E : ℕ} → natAbs (x -ℤ y) ≤ D → natAbs (s -ℤ t) ≤ E

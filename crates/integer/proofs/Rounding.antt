@@ -46,23 +46,6 @@ floor-only u q m h l k =
       belowv m (floor u m) q h (omega (Zs, floorv u m h, *v (pos m) q, +v (pos m *ℤ q) (pos m))),
     )
 
--- equal fractions have the same floor
-pub floor-same : (u v : ℤ) (m n : ℕ) → 0 < m → 0 < n → u *ℤ pos n ≡ v *ℤ pos m → floor u m ≡ floor v n
-floor-same u v m n h k e =
-    let f = floor u m in
-    let uv : up u * n + dn v * m ≡ up v * m + dn u * n = omega (Zs, *v u (pos n), *v v (pos m)) in
-    let low = mul-le-mul-right n (floorv u m h .0) in
-    let high = mul-le-mul-right n (floorv u m h .1) in
-    let X = pos n *ℤ f in
-    floor-only v f n k
-    (belowv m X v h (omega (arith, low, times m (*v (pos n) f))))
-    (omega (
-      Zs,
-      belowv m (v +ℤ pos 1) (X +ℤ pos n) h
-          (omega (arith, high, times m (*v (pos n) f), times m (+v X (pos n)), times m (+v v (pos 1)))),
-      +v v (pos 1),
-    ))
-
 -- ---- nearest
 pub nearest-is : (p : ℤ) (q : ℕ) → 0 < q → Nearest p q (nearest p q)
 unfolding nearest
@@ -140,10 +123,7 @@ clip-near u v E h =
     near (clip u -ℤ clip v)
     (omega (arith, clipv u, clipv v, onev u, onev v, -v u v, absv (u -ℤ v), -v (clip u) (clip v)))
 
--- within the limits a number is kept, and no number within them is nearer to u than `clip u` is
-pub clip-kept : (u : ℤ) → natAbs u ≤ M → clip u ≡ u
-clip-kept u h = omega (Zs, clipv u, absv u, onev u)
-
+-- no number within the limits is nearer to u than `clip u` is
 pub clip-nearest : (u z : ℤ) → natAbs z ≤ M → natAbs (u -ℤ clip u) ≤ natAbs (u -ℤ z)
 clip-nearest u z h =
     near (u -ℤ clip u) (omega (arith, clipv u, onev u, absv z, absv (u -ℤ z), -v u (clip u), -v u z))

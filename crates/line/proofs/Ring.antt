@@ -72,10 +72,6 @@ unfolding ring
 ring-silent = reverse-zeros 2112
 
 module _ (l : List ℤ) (at : ℕ) (long : length l ≡ 2112) where
-  pub ring-length : at ≤ 2112 → length (ring at l) ≡ 2112
-  unfolding ring
-  ring-length h = simp (length-append, length-reverse, length-take, length-drop) (omega arith)
-
   -- what was written since the ring last went round stands before `at`, and the rest from it on
   newer : (p k : ℕ) → at < 2112 → suc (p + k) ≡ at → getD (ring at l) k (pos 0) ≡ getD l p (pos 0)
   unfolding ring

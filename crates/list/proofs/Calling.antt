@@ -15,7 +15,7 @@ use Rattle.voice.specs.declared.Head.{Head}
 use Rattle.voice.specs.Struct.{stateOf, voiceOf}
 use Rattle.voice.specs.Called.{lent}
 use Rattle.list.specs.Words.{called}
-use Rattle.list.specs.Performed.{over}
+use Rattle.samples.specs.Samples.{over}
 
 -- a call of another kind than 0 makes no step
 pub still : (kind a b c : ℕ) (xs : List ℤ) → 0 < kind → kind ≤ 4 → inputs (called kind a b c xs) ≡ []

@@ -6,7 +6,7 @@ use Prim.Native.Nat.{ℕ, suc, _+_, _≤_, _<_}
 use native.Mathlib.Omega.{arith}
 use lib.ListN.{length, take, drop, set, length-append, length-drop}
 use lib.Seq.{take-at, drop-at, drop-drop, set-split}
-use Rattle.list.specs.Performed.{over}
+use Rattle.samples.specs.Samples.{over}
 
 module _ {X : Type 0} (w before now : List X) (e : now ≡ over w before) where
   front : take (length w) now ≡ w

@@ -12,7 +12,7 @@ use lib.ListN.{length, drop, drop-of-length-le}
 use Rattle.rule.specs.Calls.{Call}
 use Rattle.rule.specs.State.{State, puts, numbers}
 use Rattle.list.specs.Words.{calls, formed}
-use Rattle.list.specs.Performed.{over}
+use Rattle.samples.specs.Samples.{over}
 use Rattle.list.proofs.Form.{formed-short}
 use Rattle.list.proofs.Over.{over-long}
 

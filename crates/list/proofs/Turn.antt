@@ -13,7 +13,7 @@ use Rattle.rule.specs.Calls.{Call, number}
 use Rattle.rule.specs.State.{State, call, put, puts, numbers}
 use Rattle.list.specs.declared.words.Item.{Item}
 use Rattle.list.specs.Words.{called, calls, fits, formed}
-use Rattle.list.specs.Performed.{over}
+use Rattle.samples.specs.Samples.{over}
 use Rattle.list.proofs.Form.{ItemAt, Fits, fits-are, and-left, and-right}
 use Rattle.list.proofs.Form.{calls-four, formed-four, formed-more}
 use Rattle.list.proofs.Over.{over-more, over-set}

@@ -10,7 +10,8 @@ use Rattle.refusal.specs.Limits.{refusal}
 use Rattle.rule.specs.Calls.{Opening, openLimits}
 use Rattle.rule.specs.State.{State, fresh, puts, numbers}
 use Rattle.list.specs.Words.{calls, formed}
-use Rattle.list.specs.Performed.{over, performed, outputAfter, numbersAfter, Performs}
+use Rattle.samples.specs.Samples.{over}
+use Rattle.list.specs.Performed.{performed, outputAfter, numbersAfter, Performs}
 
 module _ (o : Opening) (ws : List ℕ) (xs before : List ℤ) (places : List ℕ) where
   pub unformed : formed ws (length xs) (length before) (length places) ≡ false

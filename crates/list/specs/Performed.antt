@@ -2,19 +2,16 @@
 -- Definitions alone. Assumes nothing.
 use mathlib.Core.Path.{_≡_}
 use mathlib.Core.Bool.{cond}
-use mathlib.Core.List.{List, _++_}
+use mathlib.Core.List.{List}
 use Prim.Native.Nat.{ℕ}
 use lib.IntN.{ℤ}
-use lib.ListN.{length, drop}
+use lib.ListN.{length}
 use Rattle.refusal.specs.Limits.{refusal}
+use Rattle.samples.specs.Samples.{over}
 use Rattle.rule.specs.Calls.{Opening, openLimits}
 use Rattle.rule.specs.State.{fresh, puts, numbers}
 use Rattle.list.specs.Words.{calls, formed}
 use Rattle.list.specs.declared.Performed.{Performed}
-
--- xs over the front of a slice, and the rest untouched
-abbrev pub over {ℓ} : {X : Type ℓ} → List X → List X → List X
-over xs before = xs ++ drop (length xs) before
 
 -- 31: a list that is cut short or not in this form, before anything is done
 unfoldable pub performed : Opening → List ℕ → List ℤ → ℕ → ℕ → Performed

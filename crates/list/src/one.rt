@@ -9,7 +9,7 @@ ghost use Rattle.voice.specs.Struct.{stateOf};
 ghost use Rattle.voice.specs.Valid.{Valid};
 ghost use Rattle.voice.specs.Called.{On};
 ghost use Rattle.list.specs.Words.{called, takes, lends};
-ghost use Rattle.list.specs.Performed.{over};
+ghost use Rattle.samples.specs.Samples.{over};
 ghost use lib.IntN.{ℤ};
 use crate::words::Item;
 use block::block;

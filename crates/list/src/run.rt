@@ -7,7 +7,7 @@ ghost use Rattle.rule.specs.State.{puts, numbers as Numbers};
 ghost use Rattle.voice.specs.Struct.{stateOf};
 ghost use Rattle.voice.specs.Valid.{Valid};
 ghost use Rattle.list.specs.Words.{calls, formed};
-ghost use Rattle.list.specs.Performed.{over};
+ghost use Rattle.samples.specs.Samples.{over};
 use crate::one::one;
 use crate::words::if_zero;
 use crate::words::item_at;

@@ -13,7 +13,7 @@ pub fn loss(head: Head, g: u32) -> Answer
     requires { ⌜ Fit head ⌝ }
     ensures { λ r. ⌜ Called head (Loss g) r ⌝ }
 {
-    let code = tested(0, refusal::LOSS, g, 0, 65_535);
+    let code = tested(0, refusal::LOSS, g, 0, refusal::MOST_LOSS);
     if code != 0 {
         return Answer {
             refusal: code,
@@ -33,8 +33,8 @@ pub fn pluck(head: Head, amplitude: u32, count: u32, seed: u32) -> Answer
     requires { ⌜ Fit head ⌝ }
     ensures { λ r. ⌜ Called head (Plucking amplitude count seed) r ⌝ }
 {
-    let a = tested(0, refusal::AMPLITUDE, amplitude, 0, 255);
-    let code = tested(a, refusal::COUNT, count, 1, 2_048);
+    let a = tested(0, refusal::AMPLITUDE, amplitude, 0, refusal::LOUDEST_PLUCK);
+    let code = tested(a, refusal::COUNT, count, 1, refusal::LONGEST_PLUCK);
     if code != 0 {
         return Answer {
             refusal: code,

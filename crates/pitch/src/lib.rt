@@ -88,7 +88,7 @@ fn split(order: u32, t: u32) -> Pitch
     ensures { λ r. ⌜ r ≡ answer order (pos t) (refusal (noteLength (splitL order (pos t)) ∷ [])) ⌝ }
 {
     let length = whole(order, t);
-    if outside(length, 1, 2_048) {
+    if outside(length, 1, refusal::LONGEST) {
         return Pitch {
             refusal: NOTE_LENGTH,
             length: 0,
@@ -106,7 +106,7 @@ fn split(order: u32, t: u32) -> Pitch
 pub fn note(order: u32, rate: u32, m: u32) -> Pitch
     ensures { λ r. ⌜ r ≡ pitch order rate m ⌝ }
 {
-    if outside(order, 1, 2) {
+    if outside(order, 1, refusal::ORDERS) {
         return Pitch {
             refusal: ORDER,
             length: 0,

@@ -7,6 +7,42 @@ ghost use lib.ListN.{length, replicate};
 ghost use Rattle.record.specs.Record.{bytes as Bytes, word as Word, present, without as Without};
 ghost use Rattle.record.specs.Record.{mapOf, illFormed, read, fields as Fields, rest as Rest};
 
+// The nine numbers of a record that is read: its number, its bit map, and its seven fields.
+pub const NUMBER: usize = 0;
+
+pub const MAP: usize = 1;
+
+pub const WAIT: usize = 2;
+
+pub const LENGTH: usize = 3;
+
+pub const DELAY: usize = 4;
+
+pub const LOSS: usize = 5;
+
+pub const AMPLITUDE: usize = 6;
+
+pub const COUNT: usize = 7;
+
+pub const SEED: usize = 8;
+
+// What each bit of the bit map counts.
+pub const HAS_WAIT: u32 = 1;
+
+pub const HAS_LENGTH: u32 = 2;
+
+pub const HAS_DELAY: u32 = 4;
+
+pub const HAS_LOSS: u32 = 8;
+
+pub const HAS_AMPLITUDE: u32 = 16;
+
+pub const HAS_COUNT: u32 = 32;
+
+pub const HAS_SEED: u32 = 64;
+
+pub const INSTANT: u32 = 128;
+
 // The bit of a map that counts unit.
 pub fn bit(map: u32, unit: u32) -> u32
     requires { ⌜ 0 < unit ⌝ }
@@ -19,8 +55,8 @@ pub fn bit(map: u32, unit: u32) -> u32
 fn bytes(map: u32) -> usize
     ensures { λ r. ⌜ r ≡ Bytes map ⌝ }
 {
-    let low = bit(map, 1) + bit(map, 2) + bit(map, 4) + bit(map, 8);
-    let high = bit(map, 16) + bit(map, 32) + bit(map, 64);
+    let low = bit(map, HAS_WAIT) + bit(map, HAS_LENGTH) + bit(map, HAS_DELAY) + bit(map, HAS_LOSS);
+    let high = bit(map, HAS_AMPLITUDE) + bit(map, HAS_COUNT) + bit(map, HAS_SEED);
     1 + 2 * ((low + high) as usize)
 }
 
@@ -35,8 +71,14 @@ fn without(bits: u32, needed: u32) -> u32
 fn ill_formed(map: u32) -> u32
     ensures { λ r. ⌜ r ≡ illFormed map ⌝ }
 {
-    let plucks = without(bit(map, 32) + bit(map, 64), bit(map, 16));
-    let changes = without(bit(map, 128), bit(map, 2) + bit(map, 4));
+    let plucks = without(
+        bit(map, HAS_COUNT) + bit(map, HAS_SEED),
+        bit(map, HAS_AMPLITUDE),
+    );
+    let changes = without(
+        bit(map, INSTANT),
+        bit(map, HAS_LENGTH) + bit(map, HAS_DELAY),
+    );
     plucks + changes
 }
 
@@ -79,22 +121,22 @@ fn fill(s: &[u8], map: u32, fields: &mut [u32; 9])
     requires { ⌜ (map ≡ mapOf (now s)) × (Bytes map ≤ length (now s)) ⌝ }
     ensures { λ _. ⌜ now (fields .exit) ≡ 0 ∷ read (now (s .entry)) ⌝ }
 {
-    let length = after(map, 1, 1);
-    let delay = after(map, 2, length);
-    let loss = after(map, 4, delay);
-    let amplitude = after(map, 8, loss);
-    let count = after(map, 16, amplitude);
-    let seed = after(map, 32, count);
+    let length = after(map, HAS_WAIT, 1);
+    let delay = after(map, HAS_LENGTH, length);
+    let loss = after(map, HAS_DELAY, delay);
+    let amplitude = after(map, HAS_LOSS, loss);
+    let count = after(map, HAS_AMPLITUDE, amplitude);
+    let seed = after(map, HAS_COUNT, count);
     *fields = [
         0,
         map,
-        field(s, map, 1, 1),
-        field(s, map, 2, length),
-        field(s, map, 4, delay),
-        field(s, map, 8, loss),
-        field(s, map, 16, amplitude),
-        field(s, map, 32, count),
-        field(s, map, 64, seed),
+        field(s, map, HAS_WAIT, 1),
+        field(s, map, HAS_LENGTH, length),
+        field(s, map, HAS_DELAY, delay),
+        field(s, map, HAS_LOSS, loss),
+        field(s, map, HAS_AMPLITUDE, amplitude),
+        field(s, map, HAS_COUNT, count),
+        field(s, map, HAS_SEED, seed),
     ];
 }
 

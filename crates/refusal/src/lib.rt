@@ -36,6 +36,19 @@ pub const BIT_MAP: u32 = 15;
 
 pub const OUTPUT_FULL: u32 = 16;
 
+// The greatest order, length, loss, advance, amplitude and count that are let pass.
+pub const ORDERS: u32 = 2;
+
+pub const LONGEST: u32 = 2_048;
+
+pub const MOST_LOSS: u32 = 65_535;
+
+pub const MOST_ADVANCE: u32 = 64;
+
+pub const LOUDEST_PLUCK: u32 = 255;
+
+pub const LONGEST_PLUCK: u32 = 2_048;
+
 // n is below low or above high.
 pub fn outside(n: u32, low: u32, high: u32) -> bool
     ensures { λ r. ⌜ r ≡ Outside n low high ⌝ }

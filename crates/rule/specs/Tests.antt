@@ -7,18 +7,19 @@ use lib.IntN.{ℤ}
 use lib.ListN.{length}
 use Rattle.integer.specs.Rounding.{M}
 use Rattle.refusal.specs.Limits.{Limit}
+use Rattle.refusal.specs.Orders.{longest, most-loss, most-advance}
 use Rattle.samples.specs.Samples.{loudest}
 use Rattle.rule.specs.Voice.{Waiting}
 
 -- "2 L, .. 4 G, 5 Na outside the limits": L 1 to 2,048, G 0 to 65,535, Na 0 to 64
 abbrev pub long : ℕ → Limit
-long L = record { number = 2; low = 1; value = L; high = 2048 }
+long L = record { number = 2; low = 1; value = L; high = longest }
 
 abbrev pub lossy : ℕ → Limit
-lossy G = record { number = 4; low = 0; value = G; high = 65535 }
+lossy G = record { number = 4; low = 0; value = G; high = most-loss }
 
 abbrev pub early : ℕ → Limit
-early Na = record { number = 5; low = 0; value = Na; high = 64 }
+early Na = record { number = 5; low = 0; value = Na; high = most-advance }
 
 -- "6 a change waits": as many as wait, which may be none
 abbrev pub waitings : Option Waiting → ℕ

@@ -7,7 +7,7 @@ use Prim.Native.Nat.{ℕ, _*_, _≤_, _<_}
 use lib.IntN.{ℤ, natAbs}
 use lib.ListN.{length}
 use Rattle.integer.specs.Rounding.{M}
-use Rattle.refusal.specs.Orders.{Takes}
+use Rattle.refusal.specs.Orders.{longest, most-loss, most-advance, Takes}
 use Rattle.allpass.specs.Bounds.{Within}
 use Rattle.rule.specs.Voice.{Tuning, Waiting, Pluck, Voice, silent}
 use Rattle.rule.specs.State.{State}
@@ -16,7 +16,7 @@ use Rattle.rule.specs.State.{State}
 pub record Tunable (t : Tuning) : Type 0 where
   pub takes : Takes (t .N) (t .d)
   pub short : 1 ≤ t .L
-  pub long : t .L ≤ 2048
+  pub long : t .L ≤ longest
 
 -- a state of a filter of order N; "|w| never passes 2M"
 pub record Filled (N : ℕ) (v : List ℤ) : Type 0 where
@@ -37,8 +37,8 @@ pub record Plucked (p : Pluck) : Type 0 where
 
 pub record Valid (v : Voice) : Type 0 where
   pub fit : Tunable (v .tuning)
-  pub loss : v .G ≤ 65535
-  pub advance : v .Na ≤ 64
+  pub loss : v .G ≤ most-loss
+  pub advance : v .Na ≤ most-advance
   pub state : Filled (v .tuning .N) (v .state)
   pub last : natAbs (v .last) ≤ M
   pub waiting : (w : Waiting) → v .waiting ≡ some w → Coming (v .Na) w

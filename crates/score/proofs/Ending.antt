@@ -118,7 +118,7 @@ module _ {s : List ℕ} {out : List ℤ} {k : ℕ} {v : State} {left at : ℕ} (
 
   -- "the others come after its wait"
   module _ (q : Readable (drop at s) left) where
-    pub after-wait : {n : ℕ} {u : State} → Yields v (recordCalls (fields (drop at s)) v) n u → (n ≡ 0 → ⊥)
+    after-wait : {n : ℕ} {u : State} → Yields v (recordCalls (fields (drop at s)) v) n u → (n ≡ 0 → ⊥)
         → Returns s out n k (length out - (left - field (drop at s) 0))
     after-wait y f =
         let e : length out - left + value (fields t) 0 ≡ length out - (left - field t 0)

@@ -8,8 +8,7 @@ use borrow.Author.Tests.{eq-eqb, ne-eqb}
 use lib.IntN.{ℤ}
 use lib.ListN.{length, getD, drop}
 use Rattle.refusal.specs.Limits.{Limit, refusal}
-use Rattle.refusal.specs.Returned.{Returned}
-use Rattle.refusal.proofs.Returned.{here, past, kept-is, is-met, returned}
+use Rattle.refusal.proofs.Returned.{here, past, kept-is, is-met}
 use Rattle.rule.specs.Calls.{openLimits}
 use Rattle.rule.specs.State.{fresh}
 use Rattle.score.specs.declared.Played.{Played}
@@ -17,10 +16,6 @@ use Rattle.record.specs.Record.{word}
 use Rattle.score.specs.Run.{ends, opening, headerLimits, run}
 use Rattle.score.specs.Played.{PlaysAll, Runs}
 use Rattle.score.proofs.Playing.{plays-as}
-
--- demand 1 of a header: 14, then Open's
-pub header-returned : (s : List ℕ) → Returned (headerLimits s)
-header-returned s = returned (headerLimits s) tt
 
 module _ (s : List ℕ) where
   whole : Limit

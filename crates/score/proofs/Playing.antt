@@ -16,7 +16,8 @@ use Rattle.record.specs.Record.{recordLimits, recordNumber, fields, rest}
 use Rattle.follow.specs.Follow.{value, result, recordCalls}
 use Rattle.score.specs.Run.{Outcome, ends, joined, playLimits, played, records}
 use Rattle.score.specs.Run.{allRecords}
-use Rattle.score.specs.Played.{over, Plays}
+use Rattle.samples.specs.Samples.{over}
+use Rattle.score.specs.Played.{Plays}
 use Rattle.record.proofs.Reading.{record-returned}
 
 -- the records s on the voice u with the output out: left are the bytes t on the voice v, from index k on

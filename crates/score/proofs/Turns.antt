@@ -14,7 +14,8 @@ use Rattle.rule.specs.State.{State, from, puts}
 use Rattle.record.specs.Record.{mapOf, bytes, fields, rest}
 use Rattle.follow.specs.Follow.{value, result, recordCalls}
 use Rattle.score.specs.Run.{ends, joined, playLimits, records, allRecords}
-use Rattle.score.specs.Played.{over, Plays}
+use Rattle.samples.specs.Samples.{over}
+use Rattle.score.specs.Played.{Plays}
 use Rattle.record.proofs.Reading.{taken-rest}
 use Rattle.follow.proofs.Sequence.{from-append, puts-append}
 use Rattle.rule.proofs.Puts.{length-out}

@@ -1,23 +1,21 @@
 -- What the parts of a run, and the run itself, return and leave: the calls of specs/Run.antt on the voice.
 -- Definitions alone. Assumes nothing.
 use mathlib.Core.Path.{_≡_}
-use mathlib.Core.List.{List, _++_}
+use mathlib.Core.List.{List}
 use Prim.Native.Nat.{ℕ}
 use lib.IntN.{ℤ}
-use lib.ListN.{length, drop}
+use lib.ListN.{length}
+use Rattle.samples.specs.Samples.{over}
 use Rattle.rule.specs.State.{State, puts, fresh}
 use Rattle.score.specs.declared.Played.{Played}
 use Rattle.score.specs.Run.{Outcome, allRecords, opening, run}
-
--- "Samples already written stand and are counted; the rest of the output is untouched"
-abbrev pub over : List ℤ → List ℤ → List ℤ
-over ys output = ys ++ drop (length ys) output
 
 -- the outcome o of calls on the voice v, on a lent output that is left as after
 pub record Plays (o : Outcome) (v : State) (output : List ℤ) (r : Played) (after : List ℤ) : Type 0 where
   pub number : r .refusal ≡ o .number
   pub place : r .place ≡ o .place
   pub count : r .written ≡ length (puts v (o .calls))
+  -- "Samples already written stand and are counted; the rest of the output is untouched"
   pub output-is : after ≡ over (puts v (o .calls)) output
 
 -- the records s on the voice v

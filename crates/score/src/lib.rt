@@ -8,6 +8,8 @@ ghost use Rattle.refusal.specs.Returned.{Tests};
 ghost use Rattle.score.specs.Run.{fits};
 ghost use Rattle.score.specs.Played.{PlaysAll, Runs};
 use follow::follow;
+use record::NUMBER;
+use record::WAIT;
 use record::read_record;
 use record::word;
 use voice::Head;
@@ -30,11 +32,11 @@ fn as_length(wait: u32) -> usize
 fn refused(r: &[u32; 9], room: usize) -> u32
     ensures { λ n. ⌜ Tests (getD (now (r .entry)) 0 0) (fits (now (r .entry)) room) n ⌝ }
 {
-    let code = r[0];
+    let code = r[NUMBER];
     if code != 0 {
         return code;
     }
-    if room < as_length(r[2]) {
+    if room < as_length(r[WAIT]) {
         return refusal::OUTPUT_FULL;
     }
     0
@@ -60,7 +62,7 @@ fn play(line: &mut [i32; 2112], mut head: Head, records: &[u8], output: &mut [i3
                 written: done,
             };
         }
-        let wait = as_length(r[2]);
+        let wait = as_length(r[WAIT]);
         let e = done + wait;
         let a = follow(line, head, &r, &mut output[done..e]);
         done = e;

@@ -10,7 +10,7 @@ use Rattle.integer.proofs.View.{absv, onev, -v, negv, Zs}
 use Rattle.integer.proofs.Ring.{*-assoc}
 use Rattle.integer.proofs.Rounding.{nearest-same}
 use Rattle.refusal.specs.Orders.{lowest}
-use Rattle.thiran.specs.Formula.{choose, sign, product, factor, a, Same, over}
+use Rattle.thiran.specs.Formula.{choose, sign, product, factor, a, Same, fraction}
 use Rattle.thiran.specs.Coefficients.{coefficient}
 use Rattle.thiran.proofs.Products.{product-same, product-split, product-turned, product-above}
 
@@ -51,7 +51,7 @@ module _ (N d k : ℕ) where
       ∙ ap (product F) e
       ∙ product-split F k (suc N)
 
-  pub cancelled : Same (a N d k) (over (pos (choose N k) *ℤ product (turned N d) k) (product (raised d) k))
+  pub cancelled : Same (a N d k) (fraction (pos (choose N k) *ℤ product (turned N d) k) (product (raised d) k))
   unfolding a
   cancelled =
       let c = pos (choose N k) in
@@ -77,7 +77,7 @@ module _ (N d k : ℕ) where
     above-0 = let b = above in omega (Zs, absv (a N d k .bottom))
 
     -- a coefficient by any fraction that is equal to (3)
-    pub coefficient-same : (t : ℤ) (q : ℕ) → 0 < q → Same (a N d k) (over t (pos q))
+    pub coefficient-same : (t : ℤ) (q : ℕ) → 0 < q → Same (a N d k) (fraction t (pos q))
         → coefficient N d k ≡ nearest (pos 65536 *ℤ t) q
     unfolding coefficient
     coefficient-same t q g s =

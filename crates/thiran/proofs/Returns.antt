@@ -14,7 +14,7 @@ use Rattle.refusal.specs.Limits.{refusal}
 use Rattle.refusal.specs.Orders.{Takes}
 use Rattle.refusal.specs.Ranges.{order-1, order-2, OrderDelay}
 use Rattle.refusal.proofs.Ranges.{ranges, order-delay}
-use Rattle.thiran.specs.Formula.{a, Same, over}
+use Rattle.thiran.specs.Formula.{a, Same, fraction}
 use Rattle.thiran.specs.Coefficients.{coefficient, coefficients}
 use Rattle.thiran.specs.Answers.{limits, design}
 use Rattle.thiran.specs.Returns.{Returns}
@@ -43,7 +43,7 @@ module _ (N d k : ℕ) (t : Takes N d) (h : 1 ≤ k) where
   bottom-is : pos (natAbs bottom) ≡ bottom
   bottom-is = omega (Zs, absv bottom, onev bottom, T.theorem N d t .above k h)
 
-  nearest-by : (p : ℤ) (q : ℕ) → 0 < q → Same (a N d k) (over p (pos q))
+  nearest-by : (p : ℤ) (q : ℕ) → 0 < q → Same (a N d k) (fraction p (pos q))
       → Nearest (pos 65536 *ℤ p) q (coefficient N d k)
   unfolding coefficient
   nearest-by p q g s =

@@ -10,7 +10,7 @@ use Rattle.integer.specs.Rounding.{nearest}
 use Rattle.integer.proofs.View.{*v, -v, near, Zs}
 use Rattle.integer.proofs.Ring.{*-assoc, abs-*}
 use Rattle.refusal.specs.Orders.{orders, lowest, Takes}
-use Rattle.thiran.specs.Formula.{choose, product, a, Same, over}
+use Rattle.thiran.specs.Formula.{choose, product, a, Same, fraction}
 use Rattle.thiran.specs.Coefficients.{coefficient}
 use Rattle.thiran.specs.Steps.{part, Roundable}
 use Rattle.thiran.proofs.Products.{product-pairs, *-left, sorts}
@@ -57,7 +57,7 @@ module _ (N d : ℕ) where
   part-bottom zero = refl
   part-bottom (suc k) = ap (λ (z : ℤ). z *ℤ lower k) (part-bottom k)
 
-  part-same : (k : ℕ) → Same (a N d k) (over (part N d k .top) (pos (part N d k .bottom)))
+  part-same : (k : ℕ) → Same (a N d k) (fraction (part N d k .top) (pos (part N d k .bottom)))
   part-same k =
       let p = a N d k .top in
       let q = a N d k .bottom in

@@ -8,7 +8,7 @@ use lib.IntN.{ℤ, pos, negℤ, natAbs, _-ℤ_, _*ℤ_, negℤ-negℤ, zero-*ℤ
 use Rattle.integer.proofs.View.{*v, -v, negv, Zs}
 use Rattle.integer.proofs.Rounding.{nearest-is}
 use Rattle.refusal.specs.Orders.{Takes}
-use Rattle.thiran.specs.Formula.{choose, product, factor, a, Same, over}
+use Rattle.thiran.specs.Formula.{choose, product, factor, a, Same, fraction}
 use Rattle.thiran.specs.Coefficients.{coefficient}
 use Rattle.thiran.specs.Theorems.{Rounded, Order1, Order2}
 use Rattle.thiran.proofs.Products.{neg-*, *-neg}
@@ -26,7 +26,7 @@ theorem N d t = record {
 
 -- ---- the formulas: `cancelled` at an order and an index
 at : (N d k : ℕ) {p q : ℤ} → pos (choose N k) *ℤ product (turned N d) k ≡ p → product (raised d) k ≡ q
-    → Same (a N d k) (over p q)
+    → Same (a N d k) (fraction p q)
 at N d k e i = rw (e, i) at (cancelled N d k)
 
 one-* : (z : ℤ) → pos 1 *ℤ z ≡ z

@@ -42,5 +42,5 @@ a N d k =
 pub record Same (x y : Fraction) : Type 0 where
   pub cross : x .top *ℤ y .bottom ≡ y .top *ℤ x .bottom
 
-abbrev pub over : ℤ → ℤ → Fraction
-over p q = record { top = p; bottom = q }
+abbrev pub fraction : ℤ → ℤ → Fraction
+fraction p q = record { top = p; bottom = q }

@@ -5,7 +5,7 @@ use Prim.Native.Nat.{ℕ, _≤_}
 use lib.IntN.{pos, natAbs, _+ℤ_, _-ℤ_, _*ℤ_}
 use lib.Signed.{_<ℤ_}
 use Rattle.integer.specs.Rounding.{Nearest}
-use Rattle.thiran.specs.Formula.{a, Same, over}
+use Rattle.thiran.specs.Formula.{a, Same, fraction}
 use Rattle.thiran.specs.Coefficients.{coefficient, coefficients, norm}
 
 -- "Each filter coefficient is the whole number nearest to 65,536 times the fraction in Thiran's formula";
@@ -18,12 +18,12 @@ pub record Rounded (N d : ℕ) : Type 0 where
 
 -- "Order 1: a1 = (1 − D)/(1 + D); a2 = 0"
 pub record Order1 (d : ℕ) : Type 0 where
-  pub a1 : Same (a 1 d 1) (over (pos 4096 -ℤ pos d) (pos 4096 +ℤ pos d))
+  pub a1 : Same (a 1 d 1) (fraction (pos 4096 -ℤ pos d) (pos 4096 +ℤ pos d))
   pub a2 : a 1 d 2 .top ≡ pos 0
 
 -- "Order 2: a1 = −2(D − 2)/(D + 1); a2 = (D − 1)(D − 2)/((D + 1)(D + 2))"
 pub record Order2 (d : ℕ) : Type 0 where
-  pub a1 : Same (a 2 d 1) (over (pos 2 *ℤ (pos 8192 -ℤ pos d)) (pos d +ℤ pos 4096))
+  pub a1 : Same (a 2 d 1) (fraction (pos 2 *ℤ (pos 8192 -ℤ pos d)) (pos d +ℤ pos 4096))
   pub a2 :
       Same (a 2 d 2)
-      (over ((pos d -ℤ pos 4096) *ℤ (pos d -ℤ pos 8192)) ((pos d +ℤ pos 4096) *ℤ (pos d +ℤ pos 8192)))
+      (fraction ((pos d -ℤ pos 4096) *ℤ (pos d -ℤ pos 8192)) ((pos d +ℤ pos 4096) *ℤ (pos d +ℤ pos 8192)))

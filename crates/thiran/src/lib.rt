@@ -17,7 +17,7 @@ pub struct Design {
 pub fn refused(order: u32, d: u32) -> u32
     ensures { λ r. ⌜ r ≡ refusal (limits order d) ⌝ }
 {
-    if refusal::outside(order, 1, 2) {
+    if refusal::outside(order, 1, refusal::ORDERS) {
         return refusal::ORDER;
     }
     if refusal::outside(d, 4_096 * order - 2_047, 4_096 * order + 2_048) {

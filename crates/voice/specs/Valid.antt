@@ -6,7 +6,7 @@ use Prim.Native.Nat.{ℕ, _*_, _≤_, _<_, _^_}
 use lib.IntN.{ℤ, natAbs}
 use lib.ListN.{length}
 use Rattle.integer.specs.Rounding.{M}
-use Rattle.refusal.specs.Orders.{Takes}
+use Rattle.refusal.specs.Orders.{longest, most-loss, most-advance, Takes}
 use Rattle.thiran.specs.Coefficients.{coefficients}
 use Rattle.thiran.specs.Answers.{padded}
 use Rattle.allpass.specs.Bounds.{Within}
@@ -24,7 +24,7 @@ use Rattle.voice.specs.Struct.{filterOf}
 pub record Tuned (f : Filter) : Type 0 where
   pub takes : Takes (f .tuning .order) (f .tuning .delay)
   pub short : 1 ≤ f .tuning .length
-  pub long : f .tuning .length ≤ 2048
+  pub long : f .tuning .length ≤ longest
   pub coefficients-are : f .coefficients ≡ padded (coefficients (f .tuning .order) (f .tuning .delay))
   pub past : f .state ≡ stored (filterOf f)
   pub within : Within (2 * M) (filterOf f)
@@ -49,8 +49,8 @@ pub record Plucked (p : Pluck) : Type 0 where
 -- a head
 pub record Fit (h : Head) : Type 0 where
   pub filter : Tuned (h .filter)
-  pub loss : h .loss ≤ 65535
-  pub advance : h .advance ≤ 64
+  pub loss : h .loss ≤ most-loss
+  pub advance : h .advance ≤ most-advance
   pub last : natAbs (h .last .n) ≤ M
   pub waiting : Waiting-valid (h .filter .tuning .order) (h .advance) (h .waiting)
   pub pluck : Plucked (h .pluck)

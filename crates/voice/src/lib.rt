@@ -108,7 +108,7 @@ pub fn untuned(order: u32, length: u32, delay: u32) -> u32
     requires { ⌜ (1 ≤ order) × (order ≤ orders) ⌝ }
     ensures { λ r. ⌜ r ≡ refusal (long length ∷ Delay order delay ∷ []) ⌝ }
 {
-    let code = refusal::tested(0, refusal::LENGTH, length, 1, 2_048);
+    let code = refusal::tested(0, refusal::LENGTH, length, 1, refusal::LONGEST);
     let middle = 4_096 * order;
     refusal::tested(code, refusal::DELAY, delay, middle - 2_047, middle + 2_048)
 }

@@ -12,7 +12,7 @@ use Rattle.voice.specs.Struct.{stateOf}
 use Rattle.voice.specs.Called.{On}
 use Rattle.list.specs.declared.words.Item.{Item}
 use Rattle.list.specs.Words.{called, takes, lends}
-use Rattle.list.specs.Performed.{over}
+use Rattle.samples.specs.Samples.{over}
 use Rattle.list.proofs.Calling.{over-still, over-lent}
 use Rattle.list.proofs.one.one.Statement.{statement}
 use Rattle.list.proofs.one.one.Tie as tie
