@@ -9,7 +9,7 @@ use Rattle.refusal.specs.Limits.{refusal}
 use Rattle.rule.specs.Calls.{Opening, openLimits}
 use Rattle.rule.specs.State.{State, fresh}
 use Rattle.voice.specs.Struct.{stateOf}
-use Rattle.open.specs.declared.«open».Voice.{Voice}
+use Rattle.open.specs.declared.Voice.{Voice}
 use Rattle.score.specs.Run.{opening, headerLimits}
 use Rattle.score.specs.Played.{PlaysAll}
 use borrow.Rule.Slice.PartAt.{part-to-end}
