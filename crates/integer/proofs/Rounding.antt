@@ -57,6 +57,23 @@ pub nearest-only : (p : ℤ) (q : ℕ) (A : ℤ) → 0 < q → Nearest p q A →
 unfolding nearest
 nearest-only p q A h n = floor-only (pos 2 *ℤ p +ℤ pos q) A (2 * q) (omega arith) (n .low) (n .high)
 
+-- equal fractions have the same floor
+floor-same : (u v : ℤ) (m n : ℕ) → 0 < m → 0 < n → u *ℤ pos n ≡ v *ℤ pos m → floor u m ≡ floor v n
+floor-same u v m n h k e =
+    let f = floor u m in
+    let uv : up u * n + dn v * m ≡ up v * m + dn u * n = omega (Zs, *v u (pos n), *v v (pos m)) in
+    let low = mul-le-mul-right n (floorv u m h .0) in
+    let high = mul-le-mul-right n (floorv u m h .1) in
+    let X = pos n *ℤ f in
+    floor-only v f n k
+    (belowv m X v h (omega (arith, low, times m (*v (pos n) f))))
+    (omega (
+      Zs,
+      belowv m (v +ℤ pos 1) (X +ℤ pos n) h
+          (omega (arith, high, times m (*v (pos n) f), times m (+v X (pos n)), times m (+v v (pos 1)))),
+      +v v (pos 1),
+    ))
+
 -- equal fractions have the same nearest number
 pub nearest-same : (p s : ℤ) (q r : ℕ) → 0 < q → 0 < r → p *ℤ pos r ≡ s *ℤ pos q → nearest p q ≡ nearest s r
 unfolding nearest
