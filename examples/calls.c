@@ -74,6 +74,27 @@ static void run(const char *what, const uint8_t *score, size_t length, size_t ro
     printf("\n");
 }
 
+static void perform(const char *what, uint32_t order, const uint32_t *words, size_t count)
+{
+    static const int32_t input[] = { 1000, 0, 0, 0, 0, 0, 0, 0 };
+    int32_t output[12];
+    uint32_t numbers[6], opening = 7;
+    for (int i = 0; i < 12; i++)
+        output[i] = 7;
+    for (int i = 0; i < 6; i++)
+        numbers[i] = 77;
+    size_t written = 7;
+    uint32_t refusal = jivaszte_perform(order, 3, 4096, 32768, 0, words, count, input, 8, output, 12, numbers, 6,
+                                        &opening, &written);
+    printf("perform %s: %u %u %zu,", what, refusal, opening, written);
+    for (int i = 0; i < 6; i++)
+        printf(" %u", numbers[i]);
+    printf(",");
+    for (int i = 0; i < 12; i++)
+        printf(" %d", output[i]);
+    printf("\n");
+}
+
 int main(void)
 {
     static const uint8_t paper[] = { 1, 0, 3, 0, 0, 16, 0, 128, 48, 1, 0, 1, 0, 1, 10, 0 };
@@ -81,6 +102,10 @@ int main(void)
     static const uint8_t waits[] = { 1, 4, 3, 0, 0, 16, 0, 128, 1, 2, 0, 2, 5, 0, 3, 3, 0, 6, 0 };
     static const uint8_t every[] = { 255, 1, 2, 3, 4, 5, 6, 7, 8, 9, 10, 11, 12, 13, 14, 99 };
     static const uint8_t seed[] = { 64, 1, 2 };
+    static const uint32_t calls[] = {
+        JIVASZTE_CALL_BLOCK, 6, 6, 0, JIVASZTE_CALL_BLOCK, 1, 2, 0, JIVASZTE_CALL_LOSS, 65536, 0, 0,
+        JIVASZTE_CALL_INSTANT, 1, 4096, 0, JIVASZTE_CALL_ANNOUNCE, 2, 6145, 0, JIVASZTE_CALL_BLOCK, 1, 1, 0,
+    };
     uint32_t noise = 0;
 
     coefficients(1, 2979);
@@ -111,6 +136,10 @@ int main(void)
     run("of a header cut short", paper, 7, 16);
     run("of a change that waits", waits, sizeof waits, 16);
     run("of nothing", paper, 0, 0);
+    perform("six calls", 1, calls, 24);
+    perform("a block on the voice of a refused opening", 0, calls, 4);
+    perform("a call cut short", 1, calls, 7);
+    perform("nothing", 1, calls, 0);
     for (uint32_t number = JIVASZTE_DONE; number <= JIVASZTE_OUTPUT_FULL; number++)
         if (jivaszte_words(number) == jivaszte_words(JIVASZTE_OUTPUT_FULL + 1))
             return 1;

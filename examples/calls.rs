@@ -37,12 +37,24 @@ fn run(what: &str, score: &[u8], room: usize) {
     println!();
 }
 
+fn perform(what: &str, order: u32, words: &[u32]) {
+    let input = [1000, 0, 0, 0, 0, 0, 0, 0];
+    let (mut output, mut numbers) = ([7; 12], [77; 6]);
+    let r = jivaszte::perform([order, 3, 4096, 32_768, 0], words, &input, &mut output, &mut numbers);
+    print!("perform {what}: {} {} {},", r.refusal, r.opening, r.written);
+    numbers.iter().for_each(|n| print!(" {n}"));
+    print!(",");
+    output.iter().for_each(|y| print!(" {y}"));
+    println!();
+}
+
 fn main() {
     let paper = [1, 0, 3, 0, 0, 16, 0, 128, 48, 1, 0, 1, 0, 1, 10, 0];
     let third = [3, 0, 3, 0, 0, 16, 0, 128, 1, 10, 0];
     let waits = [1, 4, 3, 0, 0, 16, 0, 128, 1, 2, 0, 2, 5, 0, 3, 3, 0, 6, 0];
     let every = [255, 1, 2, 3, 4, 5, 6, 7, 8, 9, 10, 11, 12, 13, 14, 99];
     let seed = [64, 1, 2];
+    let calls = [0, 6, 6, 0, 0, 1, 2, 0, 1, 65_536, 0, 0, 4, 1, 4096, 0, 3, 2, 6145, 0, 0, 1, 1, 0];
     let mut noise = 0;
 
     coefficients(1, 2979);
@@ -74,4 +86,8 @@ fn main() {
     run("of a header cut short", &paper[..7], 16);
     run("of a change that waits", &waits, 16);
     run("of nothing", &[], 0);
+    perform("six calls", 1, &calls);
+    perform("a block on the voice of a refused opening", 0, &calls[..4]);
+    perform("a call cut short", 1, &calls[..7]);
+    perform("nothing", 1, &[]);
 }

@@ -9,6 +9,23 @@ mod c {
         pub fn jivaszte_note(order: u32, rate: u32, note: u32, length: &mut u32, delay: &mut u32) -> u32;
         pub fn jivaszte_draw(noise: &mut u32) -> i32;
         pub fn jivaszte_record(score: *const u8, length: usize, fields: &mut [u32; 9]) -> usize;
+        pub fn jivaszte_perform(
+            order: u32,
+            length: u32,
+            delay: u32,
+            loss: u32,
+            advance: u32,
+            words: *const u32,
+            count: usize,
+            input: *const i32,
+            samples: usize,
+            output: *mut i32,
+            room: usize,
+            numbers: *mut u32,
+            places: usize,
+            opening: &mut u32,
+            written: &mut usize,
+        ) -> u32;
         pub fn jivaszte_run(
             score: *const u8,
             length: usize,
@@ -33,6 +50,33 @@ pub fn run(score: &[u8], output: &mut [i32]) -> Played {
     // SAFETY: every reference is valid for its length, and none overlaps another.
     let refusal = unsafe { c::jivaszte_run(score.as_ptr(), score.len(), to, room, &mut place, &mut written) };
     Played { refusal, place, written }
+}
+
+pub struct Performed {
+    pub refusal: u32,
+    pub opening: u32,
+    pub written: usize,
+}
+
+/// Makes calls, four words each, on a voice of its own: order, length, delay, loss, advance.
+pub fn perform(
+    [order, length, delay, loss, advance]: [u32; 5],
+    words: &[u32],
+    input: &[i32],
+    output: &mut [i32],
+    numbers: &mut [u32],
+) -> Performed {
+    let (mut opening, mut written) = (0, 0);
+    let (room, to) = (output.len(), output.as_mut_ptr());
+    let (places, codes) = (numbers.len(), numbers.as_mut_ptr());
+    // SAFETY: as for `run`.
+    let refusal = unsafe {
+        c::jivaszte_perform(
+            order, length, delay, loss, advance, words.as_ptr(), words.len(), input.as_ptr(), input.len(), to, room,
+            codes, places, &mut opening, &mut written,
+        )
+    };
+    Performed { refusal, opening, written }
 }
 
 /// Reads a record: the bytes after it, and its nine numbers, of which the first is 0 or a refusal.

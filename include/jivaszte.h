@@ -64,6 +64,21 @@ static inline const char *jivaszte_words(uint32_t number)
     return number < sizeof words / sizeof words[0] ? words[number] : "no number of a refusal";
 }
 
+/* The number by which jivaszte_perform refuses. */
+enum { JIVASZTE_LIST_FORM = 31 };
+
+/* What each bit of a record's bit map counts. */
+enum {
+    JIVASZTE_HAS_WAIT = 1,
+    JIVASZTE_HAS_LENGTH = 2,
+    JIVASZTE_HAS_DELAY = 4,
+    JIVASZTE_HAS_LOSS = 8,
+    JIVASZTE_HAS_AMPLITUDE = 16,
+    JIVASZTE_HAS_COUNT = 32,
+    JIVASZTE_HAS_SEED = 64,
+    JIVASZTE_INSTANT = 128
+};
+
 /* What the nine numbers of a record are. */
 enum {
     JIVASZTE_FIELD_REFUSAL = 0,
@@ -93,6 +108,28 @@ int32_t jivaszte_draw(uint32_t *noise);
 /* Reads the record that a score without its header, or what is left of one, starts with. Returns how many bytes the
    record takes, and 0 where it is refused, by 14 or 15; the fields that it does not have are 0. */
 size_t jivaszte_record(const uint8_t *score, size_t length, uint32_t fields[JIVASZTE_FIELDS]);
+
+/* Makes calls on a voice of its own, one after the other, each on what the one before left. A call is four words: its
+   kind, and three numbers, of which those that it does not use are not looked at:
+       block      how many samples it takes from the input, the length of the output that it is lent
+       loss       G
+       pluck      amplitude, count, seed
+       announce   length, delay
+       instant    length, delay
+   What a block puts out follows in the output what the blocks before it put out; a refused block takes its input and puts
+   out nothing. numbers has what each call returned, opening what the opening returned, which makes a voice also where
+   it refuses; written is how many samples the calls put out. Refuses by 31, before anything is done, where the words are
+   no list of such calls or need more input, output or numbers than there is. */
+enum {
+    JIVASZTE_CALL_BLOCK = 0,
+    JIVASZTE_CALL_LOSS = 1,
+    JIVASZTE_CALL_PLUCK = 2,
+    JIVASZTE_CALL_ANNOUNCE = 3,
+    JIVASZTE_CALL_INSTANT = 4
+};
+uint32_t jivaszte_perform(uint32_t order, uint32_t length, uint32_t delay, uint32_t loss, uint32_t advance,
+                          const uint32_t *words, size_t count, const int32_t *input, size_t samples, int32_t *output,
+                          size_t room, uint32_t *numbers, size_t places, uint32_t *opening, size_t *written);
 
 /* Plays a score on a voice of its own. Refuses by 14, those of the opening (1, 2, 3, 5), and at a record by 14, 15,
    16, 2, 3, 6, 7, 8. place is the index of the record that was refused, the count of records after success, and 0 for

@@ -8,6 +8,7 @@ ghost use Rattle.allpass.specs.Length.{effectiveLength};
 ghost use Rattle.pitch.specs.Pitch.{pitch};
 ghost use Rattle.noise.specs.Noise.{drawn};
 ghost use Rattle.record.specs.Record.{fields as Fields, rest as Rest};
+ghost use Rattle.list.specs.Performed.{Performs};
 ghost use Rattle.score.specs.Played.{Runs};
 
 // A1 and A2 of an order and a delay.
@@ -75,6 +76,47 @@ pub extern "C" fn jivaszte_record(score: &[u8], fields: &mut [u32; 9]) -> usize
 {
     let rest = record::read_record(score, fields);
     score.len() - rest.len()
+}
+
+// A list of calls, in words, on a fresh voice.
+#[no_mangle]
+pub extern "C" fn jivaszte_perform(
+    order: u32,
+    length: u32,
+    delay: u32,
+    loss: u32,
+    advance: u32,
+    words: &[u32],
+    input: &[i32],
+    output: &mut [i32],
+    numbers: &mut [u32],
+    opening: &mut u32,
+    written: &mut usize,
+) -> u32
+    ensures { λ r. ⌜ Performs
+        (record { N = order; L = length; d = delay; G = loss; Na = advance })
+        (now (words .entry))
+        (now (input .entry))
+        (now (output .entry))
+        (now (numbers .entry))
+        (record { refusal = r; opening = now (opening .exit); written = now (written .exit) })
+        (now (output .exit))
+        (now (numbers .exit)) ⌝ }
+{
+    let p = list::perform(
+        order,
+        length,
+        delay,
+        loss,
+        advance,
+        words,
+        input,
+        output,
+        numbers,
+    );
+    *opening = p.opening;
+    *written = p.written;
+    p.refusal
 }
 
 // The run of a score.
