@@ -24,8 +24,7 @@ typedef struct {
 static uint8_t score[16 * RECORDS];
 static int32_t output[2][SAMPLES];
 
-/* The time that this program has computed: what others do on the machine is not in it. */
-static double seconds(void)
+double seconds(void)
 {
     struct timespec t;
     clock_gettime(CLOCK_THREAD_CPUTIME_ID, &t);
@@ -118,7 +117,7 @@ static void costs(const Row *none, const Row *announced, const Row *instant)
 int main(void)
 {
     static Row rows[ROWS];
-    double best[2] = { 0, 0 }, least[2] = { 1e9, 1e9 };
+    double best[2] = { 0, 0 }, wav[2][2] = { { 0, 0 }, { 0, 0 } }, least[2] = { 1e9, 1e9 };
     Played p;
     int agree = 1;
     for (int i = 0; i < ROWS; i++)
@@ -127,6 +126,7 @@ int main(void)
         for (int i = 0; i < ROWS; i++)
             rows[i].agree &= again(&rows[i]);
         agree &= best_of(read_all, make_records(score, RECORDS), best, &p) && p.place == RECORDS;
+        agree &= time_recording(0, wav[0]) && time_recording(1, wav[1]);
     }
     printf("| order | changes | wait | C, million samples a second | proved | ratio | bytes of stack | all agree |\n");
     printf("|---|---|---|---|---|---|---|---|\n");
@@ -143,6 +143,9 @@ int main(void)
     costs(rows + 3, rows + 9, rows + 15);
     printf("\nrecord reader: C %.0f, proved %.0f million records a second, ratio %.2f\n", RECORDS / best[0] / 1e6,
            RECORDS / best[1] / 1e6, best[0] / best[1]);
+    for (int k = 0; k < 2; k++)
+        printf("WAV %s: C %.0f, proved %.0f million samples a second, ratio %.2f\n", k ? "reader" : "writer",
+               1 / wav[k][0], 1 / wav[k][1], wav[k][0] / wav[k][1]);
     printf(agree ? "every number and every sample agrees\n" : "NOT ALL AGREE\n");
     return agree ? 0 : 1;
 }

@@ -95,8 +95,38 @@ static void perform(const char *what, uint32_t order, const uint32_t *words, siz
     printf("\n");
 }
 
+static void wav_write(uint32_t rate, const int32_t *samples, size_t count, size_t room)
+{
+    uint8_t file[56];
+    for (int i = 0; i < 56; i++)
+        file[i] = 77;
+    size_t bytes = 7;
+    uint32_t refusal = jivaszte_wav_write(rate, samples, count, file, room, &bytes);
+    printf("wav of %zu samples at %u in %zu bytes: %u %zu,", count, rate, room, refusal, bytes);
+    for (int i = 0; i < 56; i++)
+        printf(" %02x", file[i]);
+    printf("\n");
+}
+
+static void wav_read(const char *what, const uint8_t *file, size_t length, size_t room)
+{
+    int32_t samples[4] = { 77, 77, 77, 77 };
+    uint32_t rate = 7;
+    size_t count = 7;
+    uint32_t refusal = jivaszte_wav_read(file, length, samples, room, &rate, &count);
+    printf("wav read %s: %u %u %zu,", what, refusal, rate, count);
+    for (int i = 0; i < 4; i++)
+        printf(" %d", samples[i]);
+    printf("\n");
+}
+
 int main(void)
 {
+    static const int32_t samples[] = { 8388607, -8388607, 8388608 };
+    static const uint8_t file[] = {
+        'R', 'I', 'F', 'F', 46, 0, 0, 0, 'W', 'A', 'V', 'E', 'f', 'm', 't', ' ', 16, 0, 0, 0, 1, 0, 1, 0, 64, 31, 0, 0,
+        192, 93, 0, 0, 3, 0, 24, 0, 'd', 'a', 't', 'a', 9, 0, 0, 0, 255, 255, 127, 0, 0, 128, 1, 0, 0, 0,
+    };
     static const uint8_t paper[] = { 1, 0, 3, 0, 0, 16, 0, 128, 48, 1, 0, 1, 0, 1, 10, 0 };
     static const uint8_t third[] = { 3, 0, 3, 0, 0, 16, 0, 128, 1, 10, 0 };
     static const uint8_t waits[] = { 1, 4, 3, 0, 0, 16, 0, 128, 1, 2, 0, 2, 5, 0, 3, 3, 0, 6, 0 };
@@ -140,8 +170,19 @@ int main(void)
     perform("a block on the voice of a refused opening", 0, calls, 4);
     perform("a call cut short", 1, calls, 7);
     perform("nothing", 1, calls, 0);
-    for (uint32_t number = JIVASZTE_DONE; number <= JIVASZTE_OUTPUT_FULL; number++)
-        if (jivaszte_words(number) == jivaszte_words(JIVASZTE_OUTPUT_FULL + 1))
+    wav_write(44100, samples, 2, 56);
+    wav_write(192000, samples, 1, 48);
+    wav_write(8000, samples, 0, 44);
+    wav_write(7999, samples, 3, 0);
+    wav_write(8000, samples, 3, 53);
+    wav_write(8000, samples, 3, 54);
+    wav_read("whole", file, sizeof file, 4);
+    wav_read("in three places", file, sizeof file, 3);
+    wav_read("in two places", file, sizeof file, 2);
+    wav_read("without its pad byte", file, sizeof file - 1, 4);
+    wav_read("of nothing", file, 0, 4);
+    for (uint32_t number = JIVASZTE_DONE; number <= JIVASZTE_FILE_FORM; number++)
+        if (jivaszte_words(number) == jivaszte_words(JIVASZTE_FILE_FORM + 1))
             return 1;
     return 0;
 }

@@ -48,7 +48,32 @@ fn perform(what: &str, order: u32, words: &[u32]) {
     println!();
 }
 
+fn wav_write(rate: u32, samples: &[i32], room: usize) {
+    let mut file = [77; 56];
+    let (refusal, bytes) = match jivaszte::wav_write(rate, samples, &mut file[..room]) {
+        Ok(bytes) => (0, bytes),
+        Err(refusal) => (refusal, 0),
+    };
+    print!("wav of {} samples at {rate} in {room} bytes: {refusal} {bytes},", samples.len());
+    file.iter().for_each(|byte| print!(" {byte:02x}"));
+    println!();
+}
+
+fn wav_read(what: &str, file: &[u8], room: usize) {
+    let mut samples = [77; 4];
+    let (refusal, rate, count) = match jivaszte::wav_read(file, &mut samples[..room]) {
+        Ok((rate, count)) => (0, rate, count),
+        Err(refusal) => (refusal, 0, 0),
+    };
+    print!("wav read {what}: {refusal} {rate} {count},");
+    samples.iter().for_each(|sample| print!(" {sample}"));
+    println!();
+}
+
 fn main() {
+    let samples = [8_388_607, -8_388_607, 8_388_608];
+    let header = b"RIFF\x2e\0\0\0WAVEfmt \x10\0\0\0\x01\0\x01\0\x40\x1f\0\0\xc0\x5d\0\0\x03\0\x18\0data\x09\0\0\0";
+    let file = [&header[..], &[255, 255, 127, 0, 0, 128, 1, 0, 0, 0]].concat();
     let paper = [1, 0, 3, 0, 0, 16, 0, 128, 48, 1, 0, 1, 0, 1, 10, 0];
     let third = [3, 0, 3, 0, 0, 16, 0, 128, 1, 10, 0];
     let waits = [1, 4, 3, 0, 0, 16, 0, 128, 1, 2, 0, 2, 5, 0, 3, 3, 0, 6, 0];
@@ -90,4 +115,15 @@ fn main() {
     perform("a block on the voice of a refused opening", 0, &calls[..4]);
     perform("a call cut short", 1, &calls[..7]);
     perform("nothing", 1, &[]);
+    wav_write(44_100, &samples[..2], 56);
+    wav_write(192_000, &samples[..1], 48);
+    wav_write(8_000, &[], 44);
+    wav_write(7_999, &samples, 0);
+    wav_write(8_000, &samples, 53);
+    wav_write(8_000, &samples, 54);
+    wav_read("whole", &file, 4);
+    wav_read("in three places", &file, 3);
+    wav_read("in two places", &file, 2);
+    wav_read("without its pad byte", &file[..file.len() - 1], 4);
+    wav_read("of nothing", &[], 4);
 }

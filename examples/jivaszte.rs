@@ -34,6 +34,22 @@ mod c {
             place: &mut usize,
             written: &mut usize,
         ) -> u32;
+        pub fn jivaszte_wav_write(
+            rate: u32,
+            samples: *const i32,
+            count: usize,
+            file: *mut u8,
+            room: usize,
+            bytes: &mut usize,
+        ) -> u32;
+        pub fn jivaszte_wav_read(
+            file: *const u8,
+            length: usize,
+            samples: *mut i32,
+            room: usize,
+            rate: &mut u32,
+            count: &mut usize,
+        ) -> u32;
     }
 }
 
@@ -121,4 +137,26 @@ pub fn note(order: u32, rate: u32, note: u32) -> Result<(u32, u32), u32> {
 pub fn draw(noise: &mut u32) -> i32 {
     // SAFETY: as for `run`.
     unsafe { c::jivaszte_draw(noise) }
+}
+
+/// Writes samples at a rate as a WAV file: the count of its bytes, or the number of a refusal.
+pub fn wav_write(rate: u32, samples: &[i32], file: &mut [u8]) -> Result<usize, u32> {
+    let mut bytes = 0;
+    let (room, to) = (file.len(), file.as_mut_ptr());
+    // SAFETY: as for `run`.
+    match unsafe { c::jivaszte_wav_write(rate, samples.as_ptr(), samples.len(), to, room, &mut bytes) } {
+        0 => Ok(bytes),
+        refusal => Err(refusal),
+    }
+}
+
+/// Reads a WAV file: its rate and the count of its samples, or the number of a refusal.
+pub fn wav_read(file: &[u8], samples: &mut [i32]) -> Result<(u32, usize), u32> {
+    let (mut rate, mut count) = (0, 0);
+    let (room, to) = (samples.len(), samples.as_mut_ptr());
+    // SAFETY: as for `run`.
+    match unsafe { c::jivaszte_wav_read(file.as_ptr(), file.len(), to, room, &mut rate, &mut count) } {
+        0 => Ok((rate, count)),
+        refusal => Err(refusal),
+    }
 }

@@ -36,7 +36,10 @@ enum {
     JIVASZTE_NOTE_LENGTH = 13,
     JIVASZTE_CUT_SHORT = 14,
     JIVASZTE_BIT_MAP = 15,
-    JIVASZTE_OUTPUT_FULL = 16
+    JIVASZTE_OUTPUT_FULL = 16,
+    JIVASZTE_RECORDING_RATE = 17,
+    JIVASZTE_ROOM = 18,
+    JIVASZTE_FILE_FORM = 19
 };
 
 /* The words of such a number. */
@@ -60,6 +63,9 @@ static inline const char *jivaszte_words(uint32_t number)
         "the bytes end early",
         "bit 5 or 6 stands without 4, or bit 7 without 1 or 2",
         "the wait does not fit the output that is left",
+        "the recording's rate is outside 8000 to 192000",
+        "there are more than 1000000 samples, or the lent slice is too short",
+        "the bytes are no WAV file of one channel and 24 bits in the form that is written",
     };
     return number < sizeof words / sizeof words[0] ? words[number] : "no number of a refusal";
 }
@@ -135,6 +141,18 @@ uint32_t jivaszte_perform(uint32_t order, uint32_t length, uint32_t delay, uint3
    16, 2, 3, 6, 7, 8. place is the index of the record that was refused, the count of records after success, and 0 for
    the header; written is how many samples of the output the run has filled, also where it was refused. */
 uint32_t jivaszte_run(const uint8_t *score, size_t length, int32_t *output, size_t room, size_t *place, size_t *written);
+
+/* How many bytes a WAV file of so many samples has: the header, three bytes a sample, and a pad byte. */
+#define JIVASZTE_WAV_SIZE(samples) (44 + 3 * (size_t)(samples) + (size_t)(samples) % 2)
+
+/* Writes samples at a rate, 8,000 to 192,000 a second, as a WAV file (RIFF WAVE, PCM, one channel, 24 bits) of at most
+   1,000,000 samples. bytes is how many bytes of the file's room it has filled; nothing past them is touched. Refuses by
+   17, 18, 10, and then touches nothing of the file's room. */
+uint32_t jivaszte_wav_write(uint32_t rate, const int32_t *samples, size_t count, uint8_t *file, size_t room, size_t *bytes);
+
+/* Reads such a file: its rate, and its samples, count of them. A stored -8,388,608 reads as -8,388,607, so that all that
+   is read is block input. Nothing past the samples is touched. Refuses by 19, 17, 18, and then touches no sample. */
+uint32_t jivaszte_wav_read(const uint8_t *file, size_t length, int32_t *samples, size_t room, uint32_t *rate, size_t *count);
 
 #ifdef __cplusplus
 }

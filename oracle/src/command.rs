@@ -11,6 +11,12 @@ pub const RUN_LIMIT: u32 = 16_384;
 /// `line K`: "K up to 2112".
 pub const LINE_LIMIT: u32 = 2_112;
 
+/// `wavwrite RATE ROOM X1 X2 ..`: "ROOM up to 16,384 bytes".
+pub const FILE_LIMIT: u32 = 16_384;
+
+/// `wavread ROOM B1 B2 ..`: "and 4,096 samples".
+pub const READ_LIMIT: u32 = 4_096;
+
 /// One line of the console's input, understood.
 #[derive(Clone, Debug)]
 pub enum Command {
@@ -24,6 +30,8 @@ pub enum Command {
     Run { places: usize, bytes: Vec<u8> },
     State,
     Line { count: usize },
+    WavWrite { rate: u32, places: usize, samples: Vec<i32> },
+    WavRead { places: usize, bytes: Vec<u8> },
 }
 
 /// The words of a line: "separated by spaces or tabs; `#` starts a comment (to end of line)".
@@ -75,13 +83,30 @@ fn bytes(words: &[&[u8]]) -> Option<Vec<u8>> {
     words.iter().map(|word| byte(word)).collect()
 }
 
+/// All the words as samples, at most 4,096.
+fn samples(words: &[&[u8]]) -> Option<Vec<i32>> {
+    let samples: Vec<i32> = words.iter().map(|word| sample(word)).collect::<Option<_>>()?;
+    (samples.len() <= BLOCK_LIMIT as usize).then_some(samples)
+}
+
 /// `block OUT X1 X2 ..`
 fn block(words: &[&[u8]]) -> Option<Command> {
     let (first, rest) = words.split_first()?;
-    let places = places(first, BLOCK_LIMIT)?;
-    let input: Vec<i32> = rest.iter().map(|word| sample(word)).collect::<Option<_>>()?;
-    let fits = input.len() <= BLOCK_LIMIT as usize;
-    fits.then_some(Command::Call(Call::Block { input, places }))
+    let (places, input) = (places(first, BLOCK_LIMIT)?, samples(rest)?);
+    Some(Command::Call(Call::Block { input, places }))
+}
+
+/// `wavwrite RATE ROOM X1 X2 ..`
+fn wav_write(words: &[&[u8]]) -> Option<Command> {
+    let [rate, room, rest @ ..] = words else { return None };
+    let (rate, places) = (unsigned(rate)?, places(room, FILE_LIMIT)?);
+    Some(Command::WavWrite { rate, places, samples: samples(rest)? })
+}
+
+/// `wavread ROOM B1 B2 ..`
+fn wav_read(words: &[&[u8]]) -> Option<Command> {
+    let (first, rest) = words.split_first()?;
+    Some(Command::WavRead { places: places(first, READ_LIMIT)?, bytes: bytes(rest)? })
 }
 
 /// `run OUT B1 B2 ..`
@@ -122,6 +147,8 @@ fn command(name: &[u8], rest: &[&[u8]]) -> Option<Command> {
         b"draw" => numbers(rest).map(|[state]| Command::Draw { state }),
         b"record" => Some(Command::Record { bytes: bytes(rest)? }),
         b"run" => run(rest),
+        b"wavwrite" => wav_write(rest),
+        b"wavread" => wav_read(rest),
         b"state" => rest.is_empty().then_some(Command::State),
         b"line" => match rest {
             [count] => places(count, LINE_LIMIT).map(|count| Command::Line { count }),

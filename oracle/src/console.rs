@@ -10,6 +10,7 @@ use crate::refusal::number;
 use crate::score::run;
 use crate::thiran::coefficients;
 use crate::voice::{s_at, Voice};
+use crate::wav;
 use std::fmt::Display;
 
 /// The console with the voice that it keeps.
@@ -45,6 +46,21 @@ fn answer_run(places: usize, bytes: &[u8]) -> String {
     let run = run(bytes, &mut output);
     let start = format!("run {} {} {}", number(&run.answer), run.place, run.written);
     join(&start, output)
+}
+
+/// `wavwrite R COUNT B1 B2 ..`, the lent bytes afterwards, 4d before the call.
+fn answer_wav_write(rate: u32, places: usize, samples: &[i32]) -> String {
+    let mut lent = vec![0x4d; places];
+    let (answer, count) = wav::write(rate, samples, &mut lent);
+    let bytes = lent.iter().map(|byte| format!("{byte:02x}"));
+    join(&format!("wavwrite {} {count}", number(&answer)), bytes)
+}
+
+/// `wavread R RATE COUNT Y1 Y2 ..`, the lent samples afterwards.
+fn answer_wav_read(places: usize, bytes: &[u8]) -> String {
+    let mut lent = vec![UNTOUCHED; places];
+    let (answer, rate, count) = wav::read(bytes, &mut lent);
+    join(&format!("wavread {} {rate} {count}", number(&answer)), lent)
 }
 
 impl Default for Console {
@@ -126,6 +142,10 @@ impl Console {
             }
             Command::Record { bytes } => answer_record(bytes),
             Command::Run { places, bytes } => answer_run(*places, bytes),
+            Command::WavWrite { rate, places, samples } => {
+                answer_wav_write(*rate, *places, samples)
+            }
+            Command::WavRead { places, bytes } => answer_wav_read(*places, bytes),
             Command::State => self.answer_state(),
             Command::Line { count } => self.answer_line(*count),
         }

@@ -24,3 +24,4 @@ pub mod rows;
 pub mod score;
 pub mod thiran;
 pub mod voice;
+pub mod wav;

@@ -1,4 +1,4 @@
-//! The commands: player, console, figures, rows, scores, calls and compare.
+//! The commands: player, console, figures, rows, files, scores, calls and compare.
 
 use oracle::cases::{write_cases, Report};
 use oracle::compare::compare;

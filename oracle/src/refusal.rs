@@ -1,4 +1,4 @@
-//! The refusals of document 01, section "What each call turns down".
+//! The refusals of document 01, section "What each call turns down", and those of document 02.
 
 /// A refusal; its number is the one that the paper gives it.
 #[derive(Clone, Copy, Debug, PartialEq, Eq)]
@@ -35,6 +35,12 @@ pub enum Refusal {
     BitMap = 15,
     /// "16 the wait doesn't fit the output left"
     Wait = 16,
+    /// Document 02: "17 rate outside 8,000 to 192,000"
+    RecordingRate = 17,
+    /// Document 02: "18 more than 1,000,000 samples, or a lent slice too short"
+    Room = 18,
+    /// Document 02: "19 a file with other header values ..."
+    FileForm = 19,
 }
 
 /// What a call answers besides its values.

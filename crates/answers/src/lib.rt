@@ -3,6 +3,9 @@
 ghost use Prim.Native.Nat.{_≤_};
 ghost use lib.ListN.{length};
 ghost use Rattle.request.specs.Within.{Within};
+
+mod recordings;
+
 use print::number;
 use print::pair;
 use print::short;
@@ -14,6 +17,8 @@ use request::kinds::DRAW;
 use request::kinds::LENGTH;
 use request::kinds::NOTE;
 use request::kinds::RECORD;
+use request::kinds::WAVREAD;
+use request::kinds::WAVWRITE;
 use request::lists::bytes;
 use request::lists::bytes_room;
 
@@ -93,6 +98,8 @@ pub fn asked(buffer: &mut [u8; 4096], at: usize, s: &[u8], l: Request) -> usize
         NOTE => note(buffer, at, l),
         DRAW => draw(buffer, at, l),
         RECORD => record(buffer, at, s, l.list),
+        WAVWRITE => recordings::write(buffer, at, s, l),
+        WAVREAD => recordings::read(buffer, at, s, l),
         _ => at,
     }
 }

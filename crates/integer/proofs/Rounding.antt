@@ -140,7 +140,10 @@ clip-near u v E h =
     near (clip u -ℤ clip v)
     (omega (arith, clipv u, clipv v, onev u, onev v, -v u v, absv (u -ℤ v), -v (clip u) (clip v)))
 
--- no number within the limits is nearer to u than `clip u` is
+-- within the limits a number is kept, and no number within them is nearer to u than `clip u` is
+pub clip-kept : (u : ℤ) → natAbs u ≤ M → clip u ≡ u
+clip-kept u h = omega (Zs, clipv u, absv u, onev u)
+
 pub clip-nearest : (u z : ℤ) → natAbs z ≤ M → natAbs (u -ℤ clip u) ≤ natAbs (u -ℤ z)
 clip-nearest u z h =
     near (u -ℤ clip u) (omega (arith, clipv u, onev u, absv z, absv (u -ℤ z), -v u (clip u), -v u z))

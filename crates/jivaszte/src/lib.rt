@@ -10,6 +10,8 @@ ghost use Rattle.noise.specs.Noise.{drawn};
 ghost use Rattle.record.specs.Record.{fields as Fields, rest as Rest};
 ghost use Rattle.list.specs.Performed.{Performs};
 ghost use Rattle.score.specs.Played.{Runs};
+ghost use Rattle.wav.specs.Written.{written, left};
+ghost use Rattle.wav.specs.Recorded.{recorded, filled};
 
 // A1 and A2 of an order and a delay.
 #[no_mangle]
@@ -135,4 +137,39 @@ pub extern "C" fn jivaszte_run(
     *place = p.place;
     *written = p.written;
     p.refusal
+}
+
+// Writes samples at a rate as a WAV file.
+#[no_mangle]
+pub extern "C" fn jivaszte_wav_write(
+    rate: u32,
+    samples: &[i32],
+    file: &mut [u8],
+    count: &mut usize,
+) -> u32
+    ensures { λ r. ⌜ record { refusal = r; count = now (count .exit) }
+        ≡ written rate (now (samples .entry)) (length (now (file .entry))) ⌝ }
+    ensures { λ _. ⌜ now (file .exit) ≡ left rate (now (samples .entry)) (now (file .entry)) ⌝ }
+{
+    let w = wav::write(rate, samples, file);
+    *count = w.count;
+    w.refusal
+}
+
+// Reads the samples of a WAV file, and its rate.
+#[no_mangle]
+pub extern "C" fn jivaszte_wav_read(
+    file: &[u8],
+    samples: &mut [i32],
+    rate: &mut u32,
+    count: &mut usize,
+) -> u32
+    ensures { λ r. ⌜ record { refusal = r; rate = now (rate .exit); count = now (count .exit) }
+        ≡ recorded (now (file .entry)) (length (now (samples .entry))) ⌝ }
+    ensures { λ _. ⌜ now (samples .exit) ≡ filled (now (file .entry)) (now (samples .entry)) ⌝ }
+{
+    let r = wav::read(file, samples);
+    *rate = r.rate;
+    *count = r.count;
+    r.refusal
 }

@@ -10,7 +10,7 @@ use Rattle.io.specs.Digits.{glyph, digits}
 use Rattle.write.specs.Written as Written
 use Rattle.write.specs.Written.{Spelled}
 use Rattle.print.specs.Printed.{Room, Printed, fewest, Spells, plain, minus, Number, Signed, Line}
-use Rattle.print.specs.Printed.{Signeds, none, more}
+use Rattle.print.specs.Printed.{Hex, Each, none, more}
 use Rattle.print.proofs.Joins.{begun, held, joined}
 
 digits-long : (k n : ℕ) → length (digits 10 k n) ≡ k
@@ -72,8 +72,12 @@ lined x e m s w =
     let q = said x e (omega arith) (begun m) s in
     record { text = q .text; spells = q .spells; printed = joined e (omega (arith, q .short)) (q .printed) w }
 
+pub hexed : {b c d : List ℕ} {at k r : ℕ} (n : ℕ) → length c ≡ 4096 → Printed (32 ∷ []) b at c k
+    → Written.Wrote (glyph (n / 16) ∷ glyph (n % 16) ∷ []) c k d r → Hex n b at d r
+hexed n e p w = joined (sym (held p) ∙ e) (omega arith) p w
+
 -- one more, after others
-pub another : {xs : List ℤ} {b c d : List ℕ} {at k r : ℕ} (x : ℤ) → Signeds xs b at c k → Signed x c k d r
-    → Signeds (xs ++ x ∷ []) b at d r
+pub another : {X : Type 0} {One : X → List ℕ → ℕ → List ℕ → ℕ → Type 0} {xs : List X} {b c d : List ℕ}
+    {at k r : ℕ} (x : X) → Each One xs b at c k → One x c k d r → Each One (xs ++ x ∷ []) b at d r
 another x none p = more p none
 another x (more q ps) p = more q (another x ps p)

@@ -1,9 +1,9 @@
 -- What a lent buffer of 4,096 bytes holds after a text was printed, and the place that is returned: how many
 -- bytes it then holds, or 4,097 where standard output took no more. Definitions alone. Assumes nothing.
 use mathlib.Core.List.{List, [], _∷_, _++_}
-use Prim.Native.Nat.{ℕ, suc, _≤_, _<_}
+use Prim.Native.Nat.{ℕ, suc, _/_, _%_, _≤_, _<_}
 use lib.IntN.{ℤ, pos, negsuc}
-use Rattle.io.specs.Digits.{digits, Fewest}
+use Rattle.io.specs.Digits.{glyph, digits, Fewest}
 use Rattle.write.specs.Written.{Wrote}
 
 -- what the buffer held went to standard output, all of it or not
@@ -47,13 +47,22 @@ pub record Line (x : ℤ) (before : List ℕ) (at : ℕ) (after : List ℕ) (r :
   pub spells : Spells x text
   pub printed : Printed (text ++ 10 ∷ []) before at after r
 
--- numbers one after the other, each behind a blank: numbers from 0 on, and numbers with a sign
-pub data Numbers : List ℕ → List ℕ → ℕ → List ℕ → ℕ → Type 0 where
-  none : {b : List ℕ} {at : ℕ} → Numbers [] b at b at
-  more : {n : ℕ} {ns b c d : List ℕ} {at k r : ℕ} → Number n b at c k → Numbers ns c k d r
-      → Numbers (n ∷ ns) b at d r
+-- a byte in two hexadecimal digits, behind a blank
+abbrev pub Hex : ℕ → List ℕ → ℕ → List ℕ → ℕ → Type 0
+Hex n before at after r = Printed (32 ∷ glyph (n / 16) ∷ glyph (n % 16) ∷ []) before at after r
 
-pub data Signeds : List ℤ → List ℕ → ℕ → List ℕ → ℕ → Type 0 where
-  none : {b : List ℕ} {at : ℕ} → Signeds [] b at b at
-  more : {x : ℤ} {xs : List ℤ} {b c d : List ℕ} {at k r : ℕ} → Signed x b at c k → Signeds xs c k d r
-      → Signeds (x ∷ xs) b at d r
+-- one after the other: numbers from 0 on, numbers with a sign, bytes
+pub data Each {X : Type 0} (One : X → List ℕ → ℕ → List ℕ → ℕ → Type 0)
+    : List X → List ℕ → ℕ → List ℕ → ℕ → Type 0 where
+  none : {b : List ℕ} {at : ℕ} → Each One [] b at b at
+  more : {x : X} {xs : List X} {b c d : List ℕ} {at k r : ℕ} → One x b at c k → Each One xs c k d r
+      → Each One (x ∷ xs) b at d r
+
+abbrev pub Numbers : List ℕ → List ℕ → ℕ → List ℕ → ℕ → Type 0
+Numbers = Each Number
+
+abbrev pub Signeds : List ℤ → List ℕ → ℕ → List ℕ → ℕ → Type 0
+Signeds = Each Signed
+
+abbrev pub Hexes : List ℕ → List ℕ → ℕ → List ℕ → ℕ → Type 0
+Hexes = Each Hex

@@ -36,6 +36,11 @@ pub const BIT_MAP: u32 = 15;
 
 pub const OUTPUT_FULL: u32 = 16;
 
+pub const RECORDING_RATE: u32 = 17;
+
+pub const ROOM: u32 = 18;
+
+pub const FILE_FORM: u32 = 19;
 // The greatest order, length, loss, advance, amplitude and count that are let pass.
 pub const ORDERS: u32 = 2;
 

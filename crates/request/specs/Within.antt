@@ -1,4 +1,4 @@
--- A request's counts: it lends at most 16,384 samples, and its list starts within the line's n bytes.
+-- A request's counts: it lends at most 16,384 samples or bytes, and its list starts within the line's n bytes.
 -- Definitions alone. Assumes nothing.
 use Prim.Native.Nat.{ℕ, _≤_}
 use Rattle.request.specs.declared.Request.{Request}

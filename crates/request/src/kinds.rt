@@ -1,5 +1,5 @@
 // The kinds of lines: their names, how many numbers follow each, and the largest counts of samples.
-// 0 is a line with no word, and 15 one that is none of the others.
+// 0 is a line with no word, and 17 one that is none of the others.
 ghost use Prim.Native.Nat.{_≤_};
 use crate::lists::Taken;
 use words::word;
@@ -34,11 +34,15 @@ pub const STATE: u32 = 13;
 
 pub const LINE: u32 = 14;
 
-pub const ERROR: u32 = 15;
+pub const WAVWRITE: u32 = 15;
 
-// The place of a word in a list of words, from 1; 15 where it is none of the first 14.
+pub const WAVREAD: u32 = 16;
+
+pub const ERROR: u32 = 17;
+
+// The place of a word in a list of words, from 1; 17 where it is none of the first 16.
 fn place(w: &[u8], names: &[u8]) -> u32
-    ensures { λ r. ⌜ r ≤ 15 ⌝ }
+    ensures { λ r. ⌜ r ≤ 17 ⌝ }
 {
     let mut t = names;
     let mut k = 1;
@@ -57,11 +61,11 @@ fn place(w: &[u8], names: &[u8]) -> u32
 
 // The kind of line that a word names.
 pub fn named(w: &[u8]) -> u32
-    ensures { λ r. ⌜ r ≤ 15 ⌝ }
+    ensures { λ r. ⌜ r ≤ 17 ⌝ }
 {
     place(
         w,
-        b"open loss pluck announce instant block coefficients length note draw record run state line",
+        b"open loss pluck announce instant block coefficients length note draw record run state line wavwrite wavread",
     )
 }
 
@@ -72,13 +76,13 @@ pub fn wanted(kind: u32) -> usize
     match kind {
         OPEN => 5,
         PLUCK | LENGTH | NOTE => 3,
-        ANNOUNCE | INSTANT | COEFFICIENTS => 2,
-        LOSS | BLOCK | DRAW | RUN | LINE => 1,
+        ANNOUNCE | INSTANT | COEFFICIENTS | WAVWRITE => 2,
+        LOSS | BLOCK | DRAW | RUN | LINE | WAVREAD => 1,
         _ => 0,
     }
 }
 
-// A count of samples, at most as many as most.
+// A count of samples or bytes, at most as many as most.
 fn counted(n: u32, most: u32) -> Taken
     requires { ⌜ most ≤ 16384 ⌝ }
     ensures { λ r. ⌜ r .count ≤ 16384 ⌝ }
@@ -95,10 +99,16 @@ fn counted(n: u32, most: u32) -> Taken
     }
 }
 
-// How many samples a line lends or shows, where its first number is n.
-pub fn lent(kind: u32, n: u32) -> Taken
+// How many samples or bytes a line lends or shows, where its first two numbers are n and m.
+pub fn lent(kind: u32, n: u32, m: u32) -> Taken
     ensures { λ r. ⌜ r .count ≤ 16384 ⌝ }
 {
+    if kind == WAVWRITE {
+        return counted(m, 16_384);
+    }
+    if kind == WAVREAD {
+        return counted(n, 4_096);
+    }
     if kind == BLOCK {
         return counted(n, 4_096);
     }

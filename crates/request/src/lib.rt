@@ -18,8 +18,8 @@ use lists::listed;
 use lists::numbers;
 use words::word;
 
-// places is how many samples are lent or shown, list is where the list of samples or bytes starts, and a to e
-// are the numbers that follow the name, 0 where there are fewer.
+// places is how many samples or bytes are lent or shown, list is where the list of samples or bytes starts,
+// and a to e are the numbers that follow the name, 0 where there are fewer.
 pub struct Request {
     pub kind: u32,
     pub places: usize,
@@ -70,7 +70,7 @@ fn called(kind: u32, s: &[u8], from: usize) -> Request
 {
     let mut n = [0u32; 5];
     let r = numbers(s, from, wanted(kind), &mut n);
-    let c = lent(kind, n[0]);
+    let c = lent(kind, n[0], n[1]);
     let list = r.count;
     if listed(kind, &s[list..], r.ok, c.ok) {
         return numbered(kind, c.count, list, &n);

@@ -7,6 +7,8 @@ ghost use lib.ListN.{length, replicate};
 use crate::kinds::BLOCK;
 use crate::kinds::RECORD;
 use crate::kinds::RUN;
+use crate::kinds::WAVREAD;
+use crate::kinds::WAVWRITE;
 use crate::next::next_byte;
 use crate::next::next_number;
 use crate::next::next_sample;
@@ -131,8 +133,8 @@ pub fn listed(kind: u32, s: &[u8], numbers: bool, places: bool) -> bool
     if numbers {
         if places {
             return match kind {
-                BLOCK => sampled(s),
-                RECORD | RUN => byted(s),
+                BLOCK | WAVWRITE => sampled(s),
+                RECORD | RUN | WAVREAD => byted(s),
                 _ => ended(s),
             };
         }

@@ -1,2 +1,2 @@
 pub mod Samples
-mod Taken
+pub mod Taken

@@ -1,10 +1,12 @@
 // Text put into a lent buffer at a place; the place after it is returned. Contracts cite specs/Written.antt.
 // Where the text does not fit, the buffer is left as it was, and the same place is returned.
-ghost use Prim.Native.Nat.{_+_, _≤_};
+ghost use Prim.Native.Nat.{_+_, _/_, _%_, _≤_, _<_};
 ghost use lib.IntN.{natAbs};
 ghost use lib.ListN.{length};
 ghost use lib.Seq.{paste};
+ghost use mathlib.Core.List.{[], _∷_};
 ghost use mathlib.Core.Path.{_≡_};
+ghost use Rattle.io.specs.Digits.{glyph};
 ghost use Rattle.write.specs.Written.{Wrote, Spelled, Signed};
 use integer::Value;
 
@@ -63,4 +65,24 @@ pub fn signed(buffer: &mut [u8], at: usize, x: Value) -> usize
         return number(buffer, start, magnitude(x));
     }
     number(buffer, at, magnitude(x))
+}
+
+// A hexadecimal digit.
+fn digit(n: u8) -> u8
+    requires { ⌜ n < 16 ⌝ }
+    ensures { λ r. ⌜ r ≡ glyph n ⌝ }
+{
+    if n < 10 {
+        return 48 + n;
+    }
+    87 + n
+}
+
+// A byte in two hexadecimal digits.
+pub fn hex(buffer: &mut [u8], at: usize, b: u8) -> usize
+    ensures { λ r. ⌜ Wrote (glyph (b / 16) ∷ glyph (b % 16) ∷ []) (now (buffer .entry)) at
+        (now (buffer .exit)) r ⌝ }
+{
+    let text = [digit(b / 16), digit(b % 16)];
+    bytes(buffer, at, &text)
 }

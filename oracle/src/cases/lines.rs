@@ -9,7 +9,7 @@ use super::text::Text;
 use crate::player::OUTPUT_SAMPLES;
 
 /// Bytes as words of two hex digits.
-fn hex(bytes: &[u8]) -> String {
+pub fn hex(bytes: &[u8]) -> String {
     bytes.iter().map(|byte| format!(" {byte:02X}")).collect()
 }
 

@@ -5,6 +5,7 @@ pub mod lines;
 pub mod lists;
 pub mod notes;
 pub mod random;
+pub mod recordings;
 pub mod score_fields;
 pub mod scores;
 pub mod text;
@@ -32,7 +33,7 @@ pub struct Case {
 #[derive(Debug, Default)]
 pub struct Report {
     /// Answers by refusal number, 0 for success.
-    pub refusals: [u64; 17],
+    pub refusals: [u64; 20],
     /// Lines answered by `error`.
     pub errors: u64,
     /// What was compared for demand 3.

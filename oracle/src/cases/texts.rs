@@ -1,10 +1,10 @@
 //! Random console texts.
 
 use super::random::Random;
-use super::{lines, lists, words};
+use super::{lines, lists, recordings, words};
 
 /// The number of kinds of text; case `index` has the kind `index` modulo this.
-const KINDS: u64 = 20;
+const KINDS: u64 = 22;
 
 /// The console text of case `index`.
 pub fn text(seed: u64, index: u64) -> Vec<u8> {
@@ -29,6 +29,8 @@ pub fn text(seed: u64, index: u64) -> Vec<u8> {
             let cut = random.one_in(4);
             lines::broken(random, cut)
         }
+        19 => recordings::written(random).bytes(),
+        20 => recordings::damaged(random).bytes(),
         _ => words::words(random).bytes(),
     }
 }

@@ -24,6 +24,13 @@ const LINES: &[&str] = &[
     "record 00 00", "record 01 aB Cd 11", "record +1", "record -1", "run", "run 0", "run 3", "run 16385",
     "run 16384", "run -1", "run 3 01 00 03 00 00 10 00 80 01 03 00", "run 3 1 0 3 0 0 10 0 80",
     "run 3 01 00 03 00 00 10 00 80 # 01", "run 2 02 40 ff 07 01 18 FF ff 00", "state 1", "state", "state#",
+    "wavwrite", "wavwrite 44100", "wavwrite 44100 50 1 -1", "wavwrite 44100 49 1 -1",
+    "wavwrite 44100 51 1 -1", "wavwrite 44100 48 1", "wavwrite 44100 47 1", "wavwrite 44100 44",
+    "wavwrite 44100 16384", "wavwrite 44100 16385", "wavwrite -1 50 1 -1", "wavwrite 4294967296 50",
+    "wavwrite 7999 9 8388608", "wavwrite 8000 9 8388608", "wavwrite 192000 60 8388607 -8388607",
+    "wavwrite 192000 60 8388607 -8388608", "wavwrite 192001 60", "wavwrite 44100 50 +1", "wavread",
+    "wavread 0", "wavread 4096", "wavread 4097", "wavread 3 52 49 46 4", "wavread 3 52 49 46 46",
+    "wavread -1",
     "line", "line 2112", "line 2113", "line 0", "line 1 2", "line -1", "line 3", "s", "end", "error 1", "77",
 ];
 

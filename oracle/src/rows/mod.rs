@@ -2,6 +2,7 @@
 //! them by computation.
 
 pub mod answers;
+pub mod files;
 pub mod head;
 pub mod lists;
 pub mod notes;
@@ -19,6 +20,7 @@ pub const MODULES: &[Module] = &[
     ("RecordRows", records::module),
     ("NoteRows", notes::module),
     ("ScoreRows", scores::module),
+    ("FileRows", files::module),
 ];
 
 /// The names of the modules, a line for each.

@@ -1,0 +1,4 @@
+pub mod Laws
+pub mod Fields
+pub mod Lists
+pub mod Theorems

@@ -1,0 +1,6 @@
+pub mod Flags
+pub mod Files
+pub mod Refusals
+pub mod Results
+pub mod Numbers
+pub mod Theorems

@@ -1,0 +1,4 @@
+pub mod Written
+pub mod Recorded
+pub mod Refusals
+pub mod Theorems
