@@ -130,7 +130,7 @@ fn after(fields: &[(usize, u32)], wait: u32) -> Case {
 }
 
 /// Each field absent and present: a change of L alone, of d alone, of both, announced and instant; the
-/// loss; a pluck with count and seed given or not, and one in place of another.
+/// loss; a pluck with its count, the seed given or not, and one in place of another.
 fn fields() -> Vec<Case> {
     vec![
         after(&[], 5),
@@ -141,14 +141,17 @@ fn fields() -> Vec<Case> {
         after(&[(DELAY, 5_000), (INSTANT, 0)], 5),
         after(&[(LENGTH, 2), (DELAY, 5_000), (INSTANT, 0)], 5),
         after(&[(LOSS, 20_000)], 5),
-        after(&[(AMPLITUDE, 7)], 6),
+        after(&[(AMPLITUDE, 7), (COUNT, 3)], 6),
         after(&[(AMPLITUDE, 7), (COUNT, 1)], 6),
         after(&[(AMPLITUDE, 7), (COUNT, 2), (SEED, 9)], 6),
-        after(&[(LENGTH, 5), (AMPLITUDE, 7), (SEED, 65_535)], 7),
-        after(&[(LENGTH, 1), (INSTANT, 0), (AMPLITUDE, 7)], 5),
+        after(&[(LENGTH, 5), (AMPLITUDE, 7), (COUNT, 3), (SEED, 65_535)], 7),
+        after(&[(LENGTH, 1), (INSTANT, 0), (AMPLITUDE, 7), (COUNT, 1)], 5),
         (
             plain(),
-            vec![record(&[(AMPLITUDE, 9), (COUNT, 4)]), record(&[(WAIT, 1), (AMPLITUDE, 0)])],
+            vec![
+                record(&[(AMPLITUDE, 9), (COUNT, 4)]),
+                record(&[(WAIT, 1), (AMPLITUDE, 0), (COUNT, 3)]),
+            ],
             9,
         ),
         after(&[(WAIT, 2), (LOSS, 1), (LENGTH, 4), (AMPLITUDE, 255), (COUNT, 1), (SEED, 3)], 3),
@@ -175,7 +178,7 @@ fn refused() -> Vec<Case> {
         full(5),
         full(6),
         after(&[(WAIT, 1), (LENGTH, 2_049), (DELAY, 0)], 3),
-        after(&[(WAIT, 1), (DELAY, 6_145), (AMPLITUDE, 256)], 3),
+        after(&[(WAIT, 1), (DELAY, 6_145), (AMPLITUDE, 256), (COUNT, 3)], 3),
         again(1, &[(LENGTH, 2)]),
         again(1, &[(DELAY, 4_096), (INSTANT, 0)]),
         again(2, &[(LENGTH, 3)]),
