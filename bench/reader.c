@@ -36,7 +36,7 @@ static uint32_t act(Voice *v, const uint32_t r[9])
             return code;
     }
     if (map & 16) {
-        uint32_t count = map & 32 ? r[7] : v->filter.length;
+        uint32_t count = map & 32 ? r[7] : 100;
         if (r[6] > 255)
             return 7;
         if (outside(count, 1, 2048))

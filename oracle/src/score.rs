@@ -73,12 +73,13 @@ impl Run {
         self.call(voice, call, &mut [])
     }
 
-    /// "then plucks": "no bit 4, no pluck; count, the L in force when the pluck starts; seed 0."
+    /// "then plucks": "no bit 4, no pluck; ... seed 0." An absent count "shall mean 100 samples"
+    /// (document 02, L2).
     fn pluck(&mut self, voice: &mut Voice, record: &Record) -> Answer {
         let Some(amplitude) = record.field(AMPLITUDE) else {
             return Ok(());
         };
-        let count = record.field(COUNT).unwrap_or(voice.tuning.length);
+        let count = record.field(COUNT).unwrap_or(100);
         let seed = record.field(SEED).unwrap_or(0);
         self.call(voice, Call::Pluck { amplitude, count, seed }, &mut [])
     }

@@ -32,7 +32,7 @@ fn tests_run_in_the_order_listed() {
     assert_eq!(play(&[0x30, 255, 0, 0, 0]).0, (8, 0, 0));
 }
 
-/// The length in force after a record's own change is the count of its pluck, where none is given.
+/// An absent count is 100, whatever length is in force when the pluck starts; a given one is kept.
 #[test]
 fn the_count_that_is_absent() {
     let plucked = |records: &[u8]| {
@@ -40,6 +40,8 @@ fn the_count_that_is_absent() {
         let run = run(&[&HEADER, records].concat(), &mut output);
         format!("{:?}", run.list.last())
     };
-    assert!(plucked(&[0x12, 5, 0, 9, 0]).contains("count: 3"));
-    assert!(plucked(&[0x92, 5, 0, 9, 0]).contains("count: 5"));
+    assert!(plucked(&[0x10, 9, 0]).contains("count: 100"));
+    assert!(plucked(&[0x12, 5, 0, 9, 0]).contains("count: 100"));
+    assert!(plucked(&[0x92, 5, 0, 9, 0]).contains("count: 100"));
+    assert!(plucked(&[0xB2, 5, 0, 9, 0, 7, 0]).contains("count: 7"));
 }

@@ -1,4 +1,4 @@
--- Rows from another implementation of document 01: scores and what running them gives, as facts about the
+-- Rows from another implementation of the papers: scores and what running them gives, as facts about the
 -- definitions. It printed this text; proofs/ScoreRows.antt proves them by computation. Assumes nothing.
 use mathlib.Core.Path.{_≡_}
 use mathlib.Core.List.{List, [], _∷_}
@@ -339,6 +339,104 @@ fields =
     }
     ∷ []
 
+-- a pluck of 100 samples, or of the count that is given, at each L
+abbrev pub counts : List Row
+counts =
+    record {
+      bytes = 1 ∷ 0 ∷ 1 ∷ 0 ∷ 0 ∷ 16 ∷ 0 ∷ 0 ∷ 16 ∷ 1 ∷ 0 ∷ 130 ∷ 1 ∷ 0 ∷ 1 ∷ 104 ∷ 0 ∷ [];
+      room = 104;
+      number = 0;
+      place = 3;
+      samples =
+          pos 0 ∷ pos 0 ∷ negsuc 17297 ∷ negsuc 14511 ∷ pos 20940 ∷ pos 11001 ∷ negsuc 7597
+          ∷ pos 7982 ∷ negsuc 10241 ∷ pos 9177 ∷ pos 509 ∷ pos 5360 ∷ pos 19446 ∷ pos 15569
+          ∷ pos 7459 ∷ pos 25238 ∷ negsuc 32325 ∷ pos 966 ∷ pos 13613 ∷ negsuc 12342 ∷ negsuc 7600
+          ∷ pos 9481 ∷ pos 1628 ∷ pos 2733 ∷ negsuc 6533 ∷ negsuc 16569 ∷ negsuc 31954
+          ∷ negsuc 15372 ∷ pos 31690 ∷ pos 7355 ∷ negsuc 3073 ∷ negsuc 24012 ∷ negsuc 10282
+          ∷ negsuc 31316 ∷ negsuc 8464 ∷ negsuc 8070 ∷ pos 32192 ∷ pos 8211 ∷ pos 7179
+          ∷ negsuc 21473 ∷ pos 31234 ∷ pos 4252 ∷ negsuc 18007 ∷ negsuc 27173 ∷ pos 6250
+          ∷ pos 20690 ∷ negsuc 27378 ∷ negsuc 21991 ∷ negsuc 26528 ∷ negsuc 4459 ∷ negsuc 13484
+          ∷ pos 1162 ∷ negsuc 23703 ∷ negsuc 22323 ∷ pos 26255 ∷ negsuc 3328 ∷ negsuc 30225
+          ∷ pos 7520 ∷ negsuc 5328 ∷ negsuc 1165 ∷ negsuc 30145 ∷ negsuc 918 ∷ negsuc 22109
+          ∷ pos 22884 ∷ negsuc 23085 ∷ negsuc 2907 ∷ negsuc 1987 ∷ negsuc 14739 ∷ negsuc 14125
+          ∷ pos 19752 ∷ negsuc 18085 ∷ negsuc 24051 ∷ pos 18391 ∷ pos 24663 ∷ negsuc 11837
+          ∷ negsuc 13112 ∷ negsuc 2063 ∷ pos 27671 ∷ pos 29518 ∷ negsuc 13709 ∷ pos 25831
+          ∷ pos 27458 ∷ pos 24522 ∷ negsuc 54 ∷ negsuc 5689 ∷ negsuc 5027 ∷ negsuc 30691 ∷ pos 8003
+          ∷ negsuc 20585 ∷ pos 6533 ∷ negsuc 21596 ∷ pos 6440 ∷ negsuc 10647 ∷ pos 26032
+          ∷ negsuc 9245 ∷ pos 8929 ∷ pos 19607 ∷ negsuc 27884 ∷ pos 2143 ∷ negsuc 22127 ∷ pos 6220
+          ∷ pos 1758 ∷ pos 0 ∷ pos 0 ∷ [];
+    }
+    ∷ record {
+      bytes = 1 ∷ 0 ∷ 1 ∷ 0 ∷ 0 ∷ 16 ∷ 0 ∷ 0 ∷ 48 ∷ 1 ∷ 0 ∷ 2 ∷ 0 ∷ 130 ∷ 1 ∷ 0 ∷ 1 ∷ 6 ∷ 0 ∷ [];
+      room = 6;
+      number = 0;
+      place = 3;
+      samples = pos 0 ∷ pos 0 ∷ negsuc 17297 ∷ negsuc 14511 ∷ pos 0 ∷ pos 0 ∷ [];
+    }
+    ∷ record {
+      bytes = 1 ∷ 0 ∷ 100 ∷ 0 ∷ 0 ∷ 16 ∷ 0 ∷ 0 ∷ 16 ∷ 1 ∷ 0 ∷ 130 ∷ 1 ∷ 0 ∷ 1 ∷ 104 ∷ 0 ∷ [];
+      room = 104;
+      number = 0;
+      place = 3;
+      samples =
+          pos 0 ∷ pos 0 ∷ negsuc 17297 ∷ negsuc 14511 ∷ pos 20940 ∷ pos 11001 ∷ negsuc 7597
+          ∷ pos 7982 ∷ negsuc 10241 ∷ pos 9177 ∷ pos 509 ∷ pos 5360 ∷ pos 19446 ∷ pos 15569
+          ∷ pos 7459 ∷ pos 25238 ∷ negsuc 32325 ∷ pos 966 ∷ pos 13613 ∷ negsuc 12342 ∷ negsuc 7600
+          ∷ pos 9481 ∷ pos 1628 ∷ pos 2733 ∷ negsuc 6533 ∷ negsuc 16569 ∷ negsuc 31954
+          ∷ negsuc 15372 ∷ pos 31690 ∷ pos 7355 ∷ negsuc 3073 ∷ negsuc 24012 ∷ negsuc 10282
+          ∷ negsuc 31316 ∷ negsuc 8464 ∷ negsuc 8070 ∷ pos 32192 ∷ pos 8211 ∷ pos 7179
+          ∷ negsuc 21473 ∷ pos 31234 ∷ pos 4252 ∷ negsuc 18007 ∷ negsuc 27173 ∷ pos 6250
+          ∷ pos 20690 ∷ negsuc 27378 ∷ negsuc 21991 ∷ negsuc 26528 ∷ negsuc 4459 ∷ negsuc 13484
+          ∷ pos 1162 ∷ negsuc 23703 ∷ negsuc 22323 ∷ pos 26255 ∷ negsuc 3328 ∷ negsuc 30225
+          ∷ pos 7520 ∷ negsuc 5328 ∷ negsuc 1165 ∷ negsuc 30145 ∷ negsuc 918 ∷ negsuc 22109
+          ∷ pos 22884 ∷ negsuc 23085 ∷ negsuc 2907 ∷ negsuc 1987 ∷ negsuc 14739 ∷ negsuc 14125
+          ∷ pos 19752 ∷ negsuc 18085 ∷ negsuc 24051 ∷ pos 18391 ∷ pos 24663 ∷ negsuc 11837
+          ∷ negsuc 13112 ∷ negsuc 2063 ∷ pos 27671 ∷ pos 29518 ∷ negsuc 13709 ∷ pos 25831
+          ∷ pos 27458 ∷ pos 24522 ∷ negsuc 54 ∷ negsuc 5689 ∷ negsuc 5027 ∷ negsuc 30691 ∷ pos 8003
+          ∷ negsuc 20585 ∷ pos 6533 ∷ negsuc 21596 ∷ pos 6440 ∷ negsuc 10647 ∷ pos 26032
+          ∷ negsuc 9245 ∷ pos 8929 ∷ pos 19607 ∷ negsuc 27884 ∷ pos 2143 ∷ negsuc 22127 ∷ pos 6220
+          ∷ pos 1758 ∷ pos 0 ∷ pos 0 ∷ [];
+    }
+    ∷ record {
+      bytes = 1 ∷ 0 ∷ 100 ∷ 0 ∷ 0 ∷ 16 ∷ 0 ∷ 0 ∷ 48 ∷ 1 ∷ 0 ∷ 2 ∷ 0 ∷ 130 ∷ 1 ∷ 0 ∷ 1 ∷ 6 ∷ 0 ∷ [];
+      room = 6;
+      number = 0;
+      place = 3;
+      samples = pos 0 ∷ pos 0 ∷ negsuc 17297 ∷ negsuc 14511 ∷ pos 0 ∷ pos 0 ∷ [];
+    }
+    ∷ record {
+      bytes = 1 ∷ 0 ∷ 0 ∷ 8 ∷ 0 ∷ 16 ∷ 0 ∷ 0 ∷ 16 ∷ 1 ∷ 0 ∷ 130 ∷ 1 ∷ 0 ∷ 1 ∷ 104 ∷ 0 ∷ [];
+      room = 104;
+      number = 0;
+      place = 3;
+      samples =
+          pos 0 ∷ pos 0 ∷ negsuc 17297 ∷ negsuc 14511 ∷ pos 20940 ∷ pos 11001 ∷ negsuc 7597
+          ∷ pos 7982 ∷ negsuc 10241 ∷ pos 9177 ∷ pos 509 ∷ pos 5360 ∷ pos 19446 ∷ pos 15569
+          ∷ pos 7459 ∷ pos 25238 ∷ negsuc 32325 ∷ pos 966 ∷ pos 13613 ∷ negsuc 12342 ∷ negsuc 7600
+          ∷ pos 9481 ∷ pos 1628 ∷ pos 2733 ∷ negsuc 6533 ∷ negsuc 16569 ∷ negsuc 31954
+          ∷ negsuc 15372 ∷ pos 31690 ∷ pos 7355 ∷ negsuc 3073 ∷ negsuc 24012 ∷ negsuc 10282
+          ∷ negsuc 31316 ∷ negsuc 8464 ∷ negsuc 8070 ∷ pos 32192 ∷ pos 8211 ∷ pos 7179
+          ∷ negsuc 21473 ∷ pos 31234 ∷ pos 4252 ∷ negsuc 18007 ∷ negsuc 27173 ∷ pos 6250
+          ∷ pos 20690 ∷ negsuc 27378 ∷ negsuc 21991 ∷ negsuc 26528 ∷ negsuc 4459 ∷ negsuc 13484
+          ∷ pos 1162 ∷ negsuc 23703 ∷ negsuc 22323 ∷ pos 26255 ∷ negsuc 3328 ∷ negsuc 30225
+          ∷ pos 7520 ∷ negsuc 5328 ∷ negsuc 1165 ∷ negsuc 30145 ∷ negsuc 918 ∷ negsuc 22109
+          ∷ pos 22884 ∷ negsuc 23085 ∷ negsuc 2907 ∷ negsuc 1987 ∷ negsuc 14739 ∷ negsuc 14125
+          ∷ pos 19752 ∷ negsuc 18085 ∷ negsuc 24051 ∷ pos 18391 ∷ pos 24663 ∷ negsuc 11837
+          ∷ negsuc 13112 ∷ negsuc 2063 ∷ pos 27671 ∷ pos 29518 ∷ negsuc 13709 ∷ pos 25831
+          ∷ pos 27458 ∷ pos 24522 ∷ negsuc 54 ∷ negsuc 5689 ∷ negsuc 5027 ∷ negsuc 30691 ∷ pos 8003
+          ∷ negsuc 20585 ∷ pos 6533 ∷ negsuc 21596 ∷ pos 6440 ∷ negsuc 10647 ∷ pos 26032
+          ∷ negsuc 9245 ∷ pos 8929 ∷ pos 19607 ∷ negsuc 27884 ∷ pos 2143 ∷ negsuc 22127 ∷ pos 6220
+          ∷ pos 1758 ∷ pos 0 ∷ pos 0 ∷ [];
+    }
+    ∷ record {
+      bytes = 1 ∷ 0 ∷ 0 ∷ 8 ∷ 0 ∷ 16 ∷ 0 ∷ 0 ∷ 48 ∷ 1 ∷ 0 ∷ 2 ∷ 0 ∷ 130 ∷ 1 ∷ 0 ∷ 1 ∷ 6 ∷ 0 ∷ [];
+      room = 6;
+      number = 0;
+      place = 3;
+      samples = pos 0 ∷ pos 0 ∷ negsuc 17297 ∷ negsuc 14511 ∷ pos 0 ∷ pos 0 ∷ [];
+    }
+    ∷ []
+
 -- each refusal of a record, after samples that stand
 abbrev pub refused : List Row
 refused =
@@ -474,4 +572,5 @@ pub record ScoreRows : Type 0 where
   pub headers : given headers ≡ headers
   pub unopened : given unopened ≡ unopened
   pub fields : given fields ≡ fields
+  pub counts : given counts ≡ counts
   pub refused : given refused ≡ refused

@@ -44,13 +44,13 @@ change r v = cond (absent r 7) (announce (lengthTo r v) (delayTo r v)) (instant 
 abbrev pub changeCalls : List ℕ → State → List Call
 changeCalls r v = cond (eqb (stands r 1 + stands r 2) 0) [] (change r v ∷ [])
 
--- "count, the L in force when the pluck starts"
-abbrev pub countOf : List ℕ → State → ℕ
-countOf r v = cond (absent r 5) (v .voice .tuning .L) (value r 5)
+-- an absent count means "100 samples" (document 02, L2; document 01 had the L in force)
+abbrev pub countOf : List ℕ → ℕ
+countOf r = cond (absent r 5) 100 (value r 5)
 
 -- "no bit 4, no pluck"
 abbrev pub pluckCalls : List ℕ → State → List Call
-pluckCalls r v = cond (absent r 4) [] (pluck (value r 4) (countOf r v) (value r 6) ∷ [])
+pluckCalls r v = cond (absent r 4) [] (pluck (value r 4) (countOf r) (value r 6) ∷ [])
 
 -- the first of some numbers that is not 0, else 0
 abbrev pub first : List ℕ → ℕ

@@ -28,6 +28,9 @@ use record::bit;
 use voice::Answer;
 use voice::Head;
 
+// The samples of a pluck whose count is absent.
+const PLUCK: u32 = 100;
+
 // Sets G, where the record has one.
 fn set_loss(head: Head, r: &[u32; 9]) -> Answer
     requires { ⌜ Fit head ⌝ }
@@ -65,7 +68,7 @@ fn change(line: &[i32; 2112], head: Head, r: &[u32; 9]) -> Answer
     c.answer
 }
 
-// Plucks, where the record has an amplitude, for its count or as many steps as the L in force.
+// Plucks, where the record has an amplitude, for its count or 100 samples.
 fn pluck(head: Head, r: &[u32; 9]) -> Answer
     requires { ⌜ Fit head ⌝ }
     ensures { λ a. ⌜ ((l : List ℤ) → Valid head l
@@ -78,7 +81,7 @@ fn pluck(head: Head, r: &[u32; 9]) -> Answer
             head: head,
         };
     }
-    let count = chosen(bit(map, HAS_COUNT), r[COUNT], head.filter.tuning.length);
+    let count = chosen(bit(map, HAS_COUNT), r[COUNT], PLUCK);
     open::calls::pluck(head, r[AMPLITUDE], count, r[SEED])
 }
 

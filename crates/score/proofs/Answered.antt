@@ -98,7 +98,7 @@ module _ (s : List ℕ) (octets : (i : ℕ) → getD s i 0 < 256) where
   change-possible (delay a l f) = omega arith
   change-possible (waits a l k f) = omega arith
 
-  pluck-possible : {t : List ℕ} {v : State} {n : ℕ} → PluckRefused t v n → Possible n
+  pluck-possible : {t : List ℕ} {n : ℕ} → PluckRefused t n → Possible n
   pluck-possible (amplitude e f) = omega arith
   pluck-possible (count e a g f) = omega arith
 

@@ -119,12 +119,12 @@ module _ (t : List ℕ) where
           try (idle (v .voice .waiting)) (λ f. (6, waits a l k f)) λ w.
           inl (call v (c .0), changed a l k w (c .1) refl)
 
-  pub pluck-or : (v : State) → ((u : State) × MakesPluck t v u) ⊎ ((n : ℕ) × PluckRefused t v n)
+  pub pluck-or : (v : State) → ((u : State) × MakesPluck t v u) ⊎ ((n : ℕ) × PluckRefused t n)
   pluck-or v = ⊎-elim there (λ e. inl (v, no-pluck e refl)) (has 4)
     where
-      there : Has t 4 → ((u : State) × MakesPluck t v u) ⊎ ((n : ℕ) × PluckRefused t v n)
+      there : Has t 4 → ((u : State) × MakesPluck t v u) ⊎ ((n : ℕ) × PluckRefused t n)
       there e =
-          let n = given 5 (v .voice .tuning .L) in
+          let n = given 5 100 in
           try (between 0 (field t 4) 255) (λ f. (7, amplitude e f)) λ a.
           try (between 1 (n .0) 2048) (λ f. (8, count e a (n .1) f)) λ k.
           inl (call v (Call.pluck (field t 4) (n .0) (field t 6)), plucked e a (n .1) k refl)

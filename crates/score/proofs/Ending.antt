@@ -157,10 +157,10 @@ module _ {s : List ℕ} {out : List ℤ} {k : ℕ} {v : State} {left at : ℕ} (
           let y = change-refused t e in
           after-wait (lossy (first-ends (changeCalls (r t)) (pluckCalls (r t)) (y .1) (y .2))) (y .2)
 
-      pub by-pluck : {b : State} {n : ℕ} → MakesChange (drop at s) a b → PluckRefused (drop at s) b n
+      pub by-pluck : {b : State} {n : ℕ} → MakesChange (drop at s) a b → PluckRefused (drop at s) n
           → Returns s out n k (length out - (left - field (drop at s) 0))
-      by-pluck c e =
-          let y = pluck-refused t e in
+      by-pluck {b} c e =
+          let y = pluck-refused t b e in
           after-wait (lossy (first-then (changeCalls (r t)) (pluckCalls (r t)) (makes-change t c) (y .1)))
           (y .2)
 

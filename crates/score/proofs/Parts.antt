@@ -152,29 +152,29 @@ module _ (t : List ℕ) where
       (call v (k .0), makes v a (k .1) (returns v L d (k .1) .waits .1 (l, (e, f))) refl, λ z. omega arith)
 
   -- a pluck
-  module _ (v : State) {n : ℕ} (e : Has t 4) (g : Given t 5 (v .voice .tuning .L) n) where
+  module _ (v : State) {n : ℕ} (e : Has t 4) (g : Given t 5 100 n) where
     plucks : {m : ℕ} {u : State} → number (v .voice) (pluck (field t 4) n (field t 6)) ≡ m
         → u ≡ call v (pluck (field t 4) n (field t 6)) → Yields v (pluckCalls r v) m u
     plucks p i =
-        made v (bit (mapOf t) 4) (pluck (field t 4) (countOf r v) (field t 6)) (λ z. omega arith)
-        (rw (← chosen 5 (v .voice .tuning .L) g) p) (rw (← chosen 5 (v .voice .tuning .L) g) i)
+        made v (bit (mapOf t) 4) (pluck (field t 4) (countOf r) (field t 6)) (λ z. omega arith)
+        (rw (← chosen 5 100 g) p) (rw (← chosen 5 100 g) i)
 
   pub makes-pluck : {v u : State} → MakesPluck t v u → Yields v (pluckCalls r v) 0 u
   makes-pluck {v} (no-pluck e i) =
-      left-out v (bit (mapOf t) 4) (pluck (field t 4) (countOf r v) (field t 6)) (down (mapOf t) 4 e) i
+      left-out v (bit (mapOf t) 4) (pluck (field t 4) (countOf r) (field t 6)) (down (mapOf t) 4 e) i
   makes-pluck {v} (plucked {n} e a g k i) =
       plucks v e g (refuses .plucks (v .voice) (field t 4) n (field t 6) .accepted .1 (a, k)) i
 
-  pub pluck-refused : {n : ℕ} {v : State} → PluckRefused t v n
+  pub pluck-refused : {n : ℕ} (v : State) → PluckRefused t n
       → (u : State) × Yields v (pluckCalls r v) n u × (n ≡ 0 → ⊥)
-  pluck-refused {v = v} (amplitude e f) =
-      let n = countOf r v in (
+  pluck-refused v (amplitude e f) =
+      let n = countOf r in (
         call v (pluck (field t 4) n (field t 6)),
         made v (bit (mapOf t) 4) (pluck (field t 4) n (field t 6)) (λ z. omega arith)
             (refuses .plucks (v .voice) (field t 4) n (field t 6) .amplitude .1 f) refl,
         λ z. omega arith,
       )
-  pluck-refused {v = v} (count {n} e a g f) = (
+  pluck-refused v (count {n} e a g f) = (
     call v (pluck (field t 4) n (field t 6)),
     plucks v e g (refuses .plucks (v .voice) (field t 4) n (field t 6) .count .1 (a, f)) refl,
     λ z. omega arith,

@@ -41,10 +41,10 @@ pub data ChangeRefused (t : List ℕ) (v : State) : ℕ → Type 0 where
   waits : {L d : ℕ} → AsksChange t v L d → Between 1 L 2048 → Delayed v d → (v .voice .waiting ≡ none → ⊥)
       → ChangeRefused t v 6
 
-pub data PluckRefused (t : List ℕ) (v : State) : ℕ → Type 0 where
-  amplitude : Has t 4 → (Between 0 (field t 4) 255 → ⊥) → PluckRefused t v 7
-  count : {n : ℕ} → Has t 4 → Between 0 (field t 4) 255 → Given t 5 (v .voice .tuning .L) n
-      → (Between 1 n 2048 → ⊥) → PluckRefused t v 8
+pub data PluckRefused (t : List ℕ) : ℕ → Type 0 where
+  amplitude : Has t 4 → (Between 0 (field t 4) 255 → ⊥) → PluckRefused t 7
+  count : {n : ℕ} → Has t 4 → Between 0 (field t 4) 255 → Given t 5 100 n → (Between 1 n 2048 → ⊥)
+      → PluckRefused t 8
 
 -- ---- the run of the score s over so many places ends with this number, place and count of samples
 pub data Ends (s : List ℕ) (places : ℕ) : ℕ → ℕ → ℕ → Type 0 where
@@ -62,7 +62,7 @@ pub data Ends (s : List ℕ) (places : ℕ) : ℕ → ℕ → ℕ → Type 0 whe
       → ChangeRefused (drop at s) a n → Ends s places n k (places - (left - field (drop at s) 0))
   unplucked : {n k left at : ℕ} {v a b : State} → Reached s places k v left at → at < length s
       → Readable (drop at s) left → SetsLoss (drop at s) (waited (drop at s) v) a
-      → MakesChange (drop at s) a b → PluckRefused (drop at s) b n
+      → MakesChange (drop at s) a b → PluckRefused (drop at s) n
       → Ends s places n k (places - (left - field (drop at s) 0))
   -- "ends with the bytes": every record was accepted; "on success the record count"
   success : {k left at : ℕ} {v : State} → Reached s places k v left at → at ≡ length s

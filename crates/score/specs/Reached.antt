@@ -103,10 +103,10 @@ pub data MakesChange (t : List ℕ) (v u : State) : Type 0 where
   changed : {L d : ℕ} {c : Call} → AsksChange t v L d → Between 1 L 2048 → Delayed v d
       → v .voice .waiting ≡ none → Kind t L d c → u ≡ call v c → MakesChange t v u
 
--- "then plucks"; "no bit 4, no pluck; count, the L in force when the pluck starts; seed 0"
+-- "then plucks"; "no bit 4, no pluck; .. seed 0"; an absent count means "100 samples" (document 02, L2)
 pub data MakesPluck (t : List ℕ) (v u : State) : Type 0 where
   no-pluck : Lacks t 4 → u ≡ v → MakesPluck t v u
-  plucked : {n : ℕ} → Has t 4 → Between 0 (field t 4) 255 → Given t 5 (v .voice .tuning .L) n
+  plucked : {n : ℕ} → Has t 4 → Between 0 (field t 4) 255 → Given t 5 100 n
       → Between 1 n 2048 → u ≡ call v (pluck (field t 4) n (field t 6)) → MakesPluck t v u
 
 -- ---- record k of the score s is reached, on this voice, with this many of the places left, at this byte

@@ -8,7 +8,7 @@ use crate::refusal::number;
 use crate::score::run;
 
 const HEAD: &str = "\
--- Rows from another implementation of document 01: scores and what running them gives, as facts about the
+-- Rows from another implementation of the papers: scores and what running them gives, as facts about the
 -- definitions. It printed this text; proofs/ScoreRows.antt proves them by computation. Assumes nothing.
 use mathlib.Core.Path.{_≡_}
 use mathlib.Core.List.{List, [], _∷_}
@@ -158,6 +158,22 @@ fn fields() -> Vec<Case> {
     ]
 }
 
+/// A pluck of a voice that is opened with this L, at G 0, so that nothing goes round and each of its samples is
+/// heard once; then at once L 1, by which the first is heard after two samples, and a wait that passes the last.
+fn plucked(length: u16, count: &[(usize, u32)], wait: u32) -> Case {
+    let pluck = record(&[&[(AMPLITUDE, 1)], count].concat());
+    let nearer = record(&[(LENGTH, 1), (INSTANT, 0)]);
+    let records = vec![pluck, nearer, record(&[(WAIT, wait)])];
+    (header([1, 0], [length, 4_096, 0]), records, wait as usize)
+}
+
+/// "It shall mean 100 samples" (document 02, L2): an absent count, and a given one, at the least L, at L 100, and
+/// at the greatest.
+fn counts() -> Vec<Case> {
+    let lengths = [1, 100, 2_048];
+    lengths.iter().flat_map(|&l| [plucked(l, &[], 104), plucked(l, &[(COUNT, 2)], 6)]).collect()
+}
+
 /// Each refusal of a record, with its place and what was written before it; and the tests' order.
 fn refused() -> Vec<Case> {
     let mut cut = after(&[(WAIT, 1), (SEED, 1)], 0);
@@ -189,11 +205,16 @@ fn refused() -> Vec<Case> {
 }
 
 /// The tables.
-fn all() -> [Table; 4] {
+fn all() -> [Table; 5] {
     [
         table("headers", "each number of the header, heard; no record at all", &headers()),
         table("unopened", "14 in the header, cut at each byte; 1, 2, 3 and 5 of Open", &unopened()),
         table("fields", "each field absent and present", &fields()),
+        table(
+            "counts",
+            "a pluck of 100 samples, or of the count that is given, at each L",
+            &counts(),
+        ),
         table("refused", "each refusal of a record, after samples that stand", &refused()),
     ]
 }

@@ -5,7 +5,6 @@ use mathlib.Core.Bool.{cond}
 use Prim.Native.Nat.{ℕ}
 use lib.Dec.{eqb}
 use Rattle.rule.specs.Calls.{pluck}
-use Rattle.voice.specs.Struct.{stateOf}
 use Rattle.voice.proofs.Called.{on}
 use Rattle.follow.specs.Follow.{value, stands, countOf}
 use Rattle.follow.proofs.Following.{part-none, part-one, on-as}
@@ -25,7 +24,7 @@ returns c =
     let s = b .before .before .args in
     let r = s .r .now in
     λ l g. part-none (s .head) l (stands r 4)
-    (pluck (value r 4) (countOf r (stateOf (s .head) l)) (value r 6)) g
+    (pluck (value r 4) (countOf r) (value r 6)) g
     (sym (b .bit .ensures) ∙ c .if1 .taken)
 
 bit-requires-2 : tie.Need-bit-requires-2
@@ -55,8 +54,8 @@ returns-2 c =
     let s = b .before .before .args in
     let r = s .r .now in
     let k = n .chosen .ensures
-    ∙ ap (λ (x : ℕ). cond (eqb x 0) (s .head .filter .tuning .length) (value r 5)) (i .bit2 .ensures) in
-    λ l g. part-one (s .head) l (stands r 4) (pluck (value r 4) (countOf r (stateOf (s .head) l)) (value r 6))
+    ∙ ap (λ (x : ℕ). cond (eqb x 0) 100 (value r 5)) (i .bit2 .ensures) in
+    λ l g. part-one (s .head) l (stands r 4) (pluck (value r 4) (countOf r) (value r 6))
     (λ z. e .if1 .left (b .bit .ensures ∙ z))
     (on-as (on l (c .pluck .ensures) (g .line)) (ap (λ (x : ℕ). pluck (value r 4) x (value r 6)) k))
 
