@@ -28,13 +28,13 @@ static void coefficients(uint32_t order, uint32_t delay)
 
 static void effective_length(uint32_t order, uint32_t delay, uint32_t threshold)
 {
-    uint32_t count = 7, refusal = jivaszte_effective_length(order, delay, threshold, &count);
+    uint32_t length = 7, refusal = jivaszte_effective_length(order, delay, threshold, &length);
     printf("effective length %u %u %u: ", order, delay, threshold);
     if (refusal == JIVASZTE_DONE) {
-        printf("%u\n", count);
+        printf("%u\n", length);
     } else {
         printf("refused by %u\n", refusal);
-        zero(count);
+        zero(length);
     }
 }
 

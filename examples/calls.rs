@@ -10,7 +10,7 @@ fn coefficients(order: u32, delay: u32) {
 
 fn effective_length(order: u32, delay: u32, threshold: u32) {
     match jivaszte::effective_length(order, delay, threshold) {
-        Ok(count) => println!("effective length {order} {delay} {threshold}: {count}"),
+        Ok(length) => println!("effective length {order} {delay} {threshold}: {length}"),
         Err(refusal) => println!("effective length {order} {delay} {threshold}: refused by {refusal}"),
     }
 }

@@ -5,7 +5,7 @@ mod c {
     #[link(name = "jivaszte", kind = "static")]
     extern "C" {
         pub fn jivaszte_coefficients(order: u32, delay: u32, a1: &mut i32, a2: &mut i32) -> u32;
-        pub fn jivaszte_effective_length(order: u32, delay: u32, threshold: u32, count: &mut u32) -> u32;
+        pub fn jivaszte_effective_length(order: u32, delay: u32, threshold: u32, length: &mut u32) -> u32;
         pub fn jivaszte_note(order: u32, rate: u32, note: u32, length: &mut u32, delay: &mut u32) -> u32;
         pub fn jivaszte_draw(noise: &mut u32) -> i32;
         pub fn jivaszte_record(score: *const u8, length: usize, fields: &mut [u32; 9]) -> usize;
@@ -113,12 +113,12 @@ pub fn coefficients(order: u32, delay: u32) -> Result<(i32, i32), u32> {
     }
 }
 
-/// The count, or the number of a refusal.
+/// The index of the last value above the threshold, plus one, or the number of a refusal.
 pub fn effective_length(order: u32, delay: u32, threshold: u32) -> Result<u32, u32> {
-    let mut count = 0;
+    let mut length = 0;
     // SAFETY: as for `run`.
-    match unsafe { c::jivaszte_effective_length(order, delay, threshold, &mut count) } {
-        0 => Ok(count),
+    match unsafe { c::jivaszte_effective_length(order, delay, threshold, &mut length) } {
+        0 => Ok(length),
         refusal => Err(refusal),
     }
 }

@@ -102,8 +102,9 @@ enum {
 /* The coefficients of an order and a delay in 1/4,096 of a sample, in units of 1/65,536. Refuses by 1, 3. */
 uint32_t jivaszte_coefficients(uint32_t order, uint32_t delay, int32_t *a1, int32_t *a2);
 
-/* How many of the first 64 values of an eliminator's response to 1,000,000 exceed the threshold. Refuses by 1, 3. */
-uint32_t jivaszte_effective_length(uint32_t order, uint32_t delay, uint32_t threshold, uint32_t *count);
+/* The index, from 0, of the last of the first 64 values of an eliminator's response to 1,000,000 that exceeds the
+   threshold in magnitude, plus one; 0 where none does. Refuses by 1, 3. */
+uint32_t jivaszte_effective_length(uint32_t order, uint32_t delay, uint32_t threshold, uint32_t *length);
 
 /* The length and the delay by which a voice sounds a note at a rate in samples a second. Refuses by 1, 11, 12, 13. */
 uint32_t jivaszte_note(uint32_t order, uint32_t rate, uint32_t note, uint32_t *length, uint32_t *delay);

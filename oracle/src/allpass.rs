@@ -64,20 +64,17 @@ impl Allpass {
     }
 }
 
-/// "feed 1,000,000 and then 63 zeros to a resting eliminator; the answer is how many of the 64
-/// values w exceed a 32-bit threshold in magnitude." "Effective length: 1, 3; it returns 0."
+/// "feed 1,000,000 and then 63 zeros to a resting eliminator"; "the index of the last of the 64
+/// values above the threshold, plus one, or 0 where none is" (document 02, L4), "in magnitude".
+/// "Effective length: 1, 3; it returns 0."
 pub fn effective_length(order: u32, d: u32, threshold: u32) -> (Answer, u32) {
     let answer = test_order(order).and_then(|()| test_delay(order, d));
     if answer.is_err() {
         return (answer, 0);
     }
     let mut eliminator = Allpass::at_rest(order, d);
-    let mut count = 0;
-    for step in 0..64 {
-        let w = eliminator.eliminate(if step == 0 { 1_000_000 } else { 0 });
-        if w.abs() > i128::from(threshold) {
-            count += 1;
-        }
-    }
-    (answer, count)
+    let values: Vec<i128> =
+        (0..64).map(|i| eliminator.eliminate(if i == 0 { 1_000_000 } else { 0 })).collect();
+    let last = values.iter().rposition(|w| w.abs() > i128::from(threshold));
+    (answer, last.map_or(0, |index| index as u32 + 1))
 }

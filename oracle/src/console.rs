@@ -128,8 +128,8 @@ impl Console {
                 join(&format!("coefficients {}", number(&answer)), values)
             }
             Command::Length { order, delay, threshold } => {
-                let (answer, count) = effective_length(*order, *delay, *threshold);
-                format!("length {} {count}", number(&answer))
+                let (answer, length) = effective_length(*order, *delay, *threshold);
+                format!("length {} {length}", number(&answer))
             }
             Command::Note { order, rate, note: m } => {
                 let (answer, values) = note(*order, *rate, *m);

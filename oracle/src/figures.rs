@@ -83,10 +83,11 @@ fn note_figure(order: u32, paper: [i128; 2]) -> Figure {
     figure(&name, &[0, paper[0], paper[1]], &computed)
 }
 
-/// "Order 2, d 9,159, threshold 1,000: 3. Order 1, d 6,144, threshold 1,000,000: 0."
+/// "Order 2, d 9,159, threshold 1,000": 3, which becomes 4 by document 02, L4. "Order 1, d 6,144,
+/// threshold 1,000,000: 0."
 fn length_figure(order: u32, d: u32, threshold: u32, paper: i128) -> Figure {
-    let (answer, count) = effective_length(order, d, threshold);
-    let computed = [i128::from(number(&answer)), i128::from(count)];
+    let (answer, length) = effective_length(order, d, threshold);
+    let computed = [i128::from(number(&answer)), i128::from(length)];
     let name = format!("order {order}, d {d}, threshold {threshold}: answer, effective length");
     figure(&name, &[0, paper], &computed)
 }
@@ -114,7 +115,7 @@ pub fn figures() -> Vec<Figure> {
     figures.push(noise_figure());
     figures.push(note_figure(1, [99, 2_979]));
     figures.push(note_figure(2, [98, 7_075]));
-    figures.push(length_figure(2, 9_159, 1_000, 3));
+    figures.push(length_figure(2, 9_159, 1_000, 4));
     figures.push(length_figure(1, 6_144, 1_000_000, 0));
     figures.push(refusal_figure(1, 2_048));
     figures.push(refusal_figure(2, 6_144));

@@ -36,7 +36,7 @@ fn routines() {
     assert_answers(&[
         ("coefficients 2 6145", "coefficients 0 26199 -1872"),
         ("coefficients 3 6145", "coefficients 1 0 0"),
-        ("length 2 9159 1000", "length 0 3"),
+        ("length 2 9159 1000", "length 0 4"),
         ("note 2 44100 69", "note 0 98 7075"),
         ("draw 0", "draw -17298 1013904223"),
         ("record 23 01 00 02 00 03 00 ff", "record 15 0 0 0 0 0 0 0 0 8"),

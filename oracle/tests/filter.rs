@@ -57,8 +57,8 @@ fn refused_values_are_zero() {
     for (order, d, refusal) in [(0, 4_096, 1), (3, 4_096, 1), (1, 2_048, 3), (1, 6_145, 3)] {
         let (answer, values) = coefficients(order, d);
         assert_eq!((number(&answer), values), (refusal, [0, 0]));
-        let (answer, count) = effective_length(order, d, 0);
-        assert_eq!((number(&answer), count), (refusal, 0));
+        let (answer, length) = effective_length(order, d, 0);
+        assert_eq!((number(&answer), length), (refusal, 0));
     }
 }
 

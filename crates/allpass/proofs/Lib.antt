@@ -2,6 +2,6 @@ pub mod Bounds
 pub mod Contraction
 pub mod Orders
 pub mod Stored
-mod Counting
+mod Last
 pub mod Taken
 pub mod Returns

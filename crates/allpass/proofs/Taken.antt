@@ -11,7 +11,7 @@ use Rattle.thiran.specs.declared.formula.Coefficients.{Coefficients}
 use Rattle.thiran.proofs.Lists.{length-coefficients}
 use Rattle.thiran.proofs.Refusals.{takes-0}
 use Rattle.thiran.proofs.Small.{norm-coefficients}
-use Rattle.allpass.specs.Length.{response, above, effectiveLength}
+use Rattle.allpass.specs.Length.{response, lastAbove, effectiveLength}
 use Rattle.allpass.proofs.Stored.{taps-padded}
 
 module _ (N d : ℕ) (t : Takes N d) (c : Coefficients) (e : c ≡ padded (coefficients N d)) where
@@ -28,12 +28,12 @@ module _ (N d : ℕ) (t : Takes N d) (c : Coefficients) (e : c ≡ padded (coeff
 
 module _ (N d threshold : ℕ) where
   pub length-refused : (refusal (limits N d) ≡ 0 → ⊥)
-      → effectiveLength N d threshold ≡ record { refusal = refusal (limits N d); count = 0 }
+      → effectiveLength N d threshold ≡ record { refusal = refusal (limits N d); length = 0 }
   unfolding effectiveLength
   length-refused f = rw (ne-eqb (refusal (limits N d)) 0 f)
 
   pub length-taken : Takes N d
       → effectiveLength N d threshold
-      ≡ record { refusal = 0; count = above threshold (response (coefficients N d) N) }
+      ≡ record { refusal = 0; length = lastAbove threshold (response (coefficients N d) N) }
   unfolding effectiveLength
   length-taken t = rw (eq-eqb (refusal (limits N d)) 0 (takes-0 N d t))

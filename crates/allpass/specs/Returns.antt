@@ -1,21 +1,27 @@
 -- What `effective_length` returns, in ≤, document 01's numbers and its lines: of `effectiveLength`, which its
 -- contract says it returns. Statements alone: proofs/Returns.antt proves `Returns`. Assumes nothing.
 use mathlib.Core.Path.{_≡_}
+use mathlib.Core.Logic.{_↔_}
 use mathlib.Core.List.{List, [], _∷_}
-use Prim.Native.Nat.{ℕ, zero, suc, _≤_, _<_}
+use Prim.Native.Nat.{ℕ, zero, suc, _-_, _≤_, _<_}
 use lib.IntN.{ℤ, pos, natAbs, _+ℤ_, _-ℤ_, _*ℤ_}
-use lib.ListN.{length}
+use lib.ListN.{length, getD}
 use Rattle.integer.specs.Rounding.{R}
 use Rattle.refusal.specs.Limits.{Between}
 use Rattle.refusal.specs.Ranges.{OrderDelay}
 use Rattle.thiran.specs.Answers.{design}
 use Rattle.allpass.specs.Length.{effectiveLength}
 
--- n of the values ws exceed t in magnitude
-pub data Exceed (t : ℕ) : List ℤ → ℕ → Type 0 where
-  none : Exceed t [] 0
-  exceeds : {w : ℤ} {ws : List ℤ} {n : ℕ} → t < natAbs w → Exceed t ws n → Exceed t (w ∷ ws) (suc n)
-  within : {w : ℤ} {ws : List ℤ} {n : ℕ} → natAbs w ≤ t → Exceed t ws n → Exceed t (w ∷ ws) n
+-- the value at index i, from 0, and 0 past the last
+abbrev pub value : List ℤ → ℕ → ℤ
+value ws i = getD ws i (pos 0)
+
+-- n is "the index of the last of the .. values above the threshold, plus one, or 0 where none is" (L4): the
+-- value at n less one exceeds t in magnitude, and none after it does; n is 0 if and only if none does
+pub record Last (t : ℕ) (ws : List ℤ) (n : ℕ) : Type 0 where
+  pub exceeds : 0 < n → t < natAbs (value ws (n - 1))
+  pub after : (i : ℕ) → n ≤ i → natAbs (value ws i) ≤ t
+  pub none : n ≡ 0 ↔ ((i : ℕ) → natAbs (value ws i) ≤ t)
 
 -- "w = f − R(A1·v1 + A2·v2)" with f = 0, "Then v2 becomes v1 and v1 becomes w": n values w of the eliminator
 -- while it is fed zeros, from the state v1, v2; A2 is 0 in order 1
@@ -29,12 +35,12 @@ fades a1 a2 v1 v2 (suc n) =
 unfoldable pub values : ℤ → ℤ → List ℤ
 values a1 a2 = pos 1000000 ∷ fades a1 a2 (pos 1000000) (pos 0) 63
 
--- "Effective length: 1, 3; it returns 0"; else "how many of the 64 values w exceed a 32-bit threshold"
+-- "Effective length: 1, 3; it returns 0"; else the last of "the 64 values w" that exceeds the threshold
 pub record Returns : Type 0 where
   pub number : (N d t : ℕ) → OrderDelay N d (effectiveLength N d t .refusal)
-  pub refused : (N d t : ℕ) → (effectiveLength N d t .refusal ≡ 0 → ⊥) → effectiveLength N d t .count ≡ 0
+  pub refused : (N d t : ℕ) → (effectiveLength N d t .refusal ≡ 0 → ⊥) → effectiveLength N d t .length ≡ 0
   pub many : (a1 a2 : ℤ) → length (values a1 a2) ≡ 64
   pub order-1 : (d t : ℕ) → Between 2049 d 6144
-      → Exceed t (values (design 1 d .a1) (pos 0)) (effectiveLength 1 d t .count)
+      → Last t (values (design 1 d .a1) (pos 0)) (effectiveLength 1 d t .length)
   pub order-2 : (d t : ℕ) → Between 6145 d 10240
-      → Exceed t (values (design 2 d .a1) (design 2 d .a2)) (effectiveLength 2 d t .count)
+      → Last t (values (design 2 d .a1) (design 2 d .a2)) (effectiveLength 2 d t .length)

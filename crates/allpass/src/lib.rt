@@ -13,26 +13,26 @@ pub struct State {
 }
 
 // What `effective_length` returns: refusal is 0 for success.
-pub struct Counted {
+pub struct Measured {
     pub refusal: u32,
-    pub count: u32,
+    pub length: u32,
 }
 
-// How many of the 64 values w exceed the threshold in magnitude, where 1,000,000 and then zeros are fed to
-// a resting eliminator; 0 where the order or the delay is refused.
-pub fn effective_length(order: u32, d: u32, threshold: u32) -> Counted
+// The index of the last of the 64 values w that exceeds the threshold in magnitude, plus one, where 1,000,000
+// and then zeros are fed to a resting eliminator; 0 where none does, or the order or the delay is refused.
+pub fn effective_length(order: u32, d: u32, threshold: u32) -> Measured
     ensures { λ r. ⌜ r ≡ effectiveLength order d threshold ⌝ }
 {
     let code = thiran::refused(order, d);
     if code != 0 {
-        return Counted {
+        return Measured {
             refusal: code,
-            count: 0,
+            length: 0,
         };
     }
     let c = thiran::formula::set(order, d);
-    Counted {
+    Measured {
         refusal: 0,
-        count: response::louder(order, c, threshold),
+        length: response::last_loud(order, c, threshold),
     }
 }

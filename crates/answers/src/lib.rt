@@ -35,7 +35,7 @@ fn length(buffer: &mut [u8; 4096], at: usize, l: Request) -> usize
     ensures { λ r. ⌜ r ≤ 4097 ⌝ }
 {
     let r = allpass::effective_length(l.a, l.b, l.c);
-    pair(buffer, at, r.refusal, r.count)
+    pair(buffer, at, r.refusal, r.length)
 }
 
 fn note(buffer: &mut [u8; 4096], at: usize, l: Request) -> usize

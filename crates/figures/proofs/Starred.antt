@@ -5,7 +5,7 @@ use Rattle.integer.specs.Rounding.{floor, nearest, R, Q, clip}
 use Rattle.thiran.specs.Formula.{factor, a}
 use Rattle.thiran.specs.Coefficients.{coefficient, coefficients}
 use Rattle.allpass.specs.Allpass.{inner, next, out}
-use Rattle.allpass.specs.Length.{response, above, effectiveLength}
+use Rattle.allpass.specs.Length.{response, lastAbove, effectiveLength}
 use Rattle.noise.specs.Noise as Noise
 use Rattle.pitch.specs.Pitch.{octave, period, splitL, splitD, pitch}
 use Rattle.rule.specs.Voice.{noise, spent, output, written, settled, stepped}
@@ -15,8 +15,8 @@ use Rattle.figures.specs.Starred.{Starred}
 
 pub starred : Starred
 unfolding
-    floor nearest R Q clip factor a coefficient coefficients inner next out response above effectiveLength
-    Noise.next Noise.value octave period splitL splitD pitch
+    floor nearest R Q clip factor a coefficient coefficients inner next out response lastAbove
+    effectiveLength Noise.next Noise.value octave period splitL splitD pitch
     noise spent output written settled stepped number opened done step sounds call put silence
 starred = record {
   d2049 = refl;

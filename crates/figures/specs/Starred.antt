@@ -48,5 +48,5 @@ pub record Starred : Type 0 where
   -- "Rate 44,100, note 69: order 1 gives 99 and 2,979; order 2 gives 98 and 7,075"
   pub note1 : pitch 1 44100 69 ≡ record { refusal = 0; length = 99; delay = 2979 }
   pub note2 : pitch 2 44100 69 ≡ record { refusal = 0; length = 98; delay = 7075 }
-  -- "Order 2, d 9,159, threshold 1,000: 3"
-  pub length : effectiveLength 2 9159 1000 ≡ record { refusal = 0; count = 3 }
+  -- "Order 2, d 9,159, threshold 1,000": "that figure becomes 4" (document 02, L4)
+  pub length : effectiveLength 2 9159 1000 ≡ record { refusal = 0; length = 4 }

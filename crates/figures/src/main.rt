@@ -40,7 +40,7 @@ fn length(order: u32, d: u32, threshold: u32) {
     number(threshold);
     io::write_all(STDOUT_FILENO, b":");
     number(r.refusal);
-    number(r.count);
+    number(r.length);
     end();
 }
 

@@ -26,19 +26,19 @@ pub extern "C" fn jivaszte_coefficients(order: u32, d: u32, a1: &mut i32, a2: &m
     c.refusal
 }
 
-// How many values of the eliminator's response exceed the threshold.
+// The index of the last value of the eliminator's response that exceeds the threshold, plus one.
 #[no_mangle]
 pub extern "C" fn jivaszte_effective_length(
     order: u32,
     d: u32,
     threshold: u32,
-    count: &mut u32,
+    length: &mut u32,
 ) -> u32
-    ensures { λ r. ⌜ record { refusal = r; count = now (count .exit) } ≡ effectiveLength order d threshold ⌝ }
+    ensures { λ r. ⌜ record { refusal = r; length = now (length .exit) } ≡ effectiveLength order d threshold ⌝ }
 {
-    let c = allpass::effective_length(order, d, threshold);
-    *count = c.count;
-    c.refusal
+    let m = allpass::effective_length(order, d, threshold);
+    *length = m.length;
+    m.refusal
 }
 
 // L and d of a note at a rate.

@@ -25,8 +25,8 @@ taken c =
 set-requires : tie.Need-set-requires
 set-requires c κs = taken c
 
-louder-requires : tie.Need-louder-requires
-louder-requires c κs =
+last-loud-requires : tie.Need-last-loud-requires
+last-loud-requires c κs =
     let s = c .before .before .before in
     let t = taken (c .before) in
     let past = taken-past (s .args .order) (s .args .d) t (c .set .result) (c .set .ensures) in
@@ -39,11 +39,11 @@ returns-2 c =
     let set = c .before .set in
     let t = taken (c .before .before) in
     rw (
-      c .louder .ensures,
+      c .last-loud .ensures,
       taken-taps (s .args .order) (s .args .d) t (set .result) (set .ensures),
       length-taken (s .args .order) (s .args .d) (s .args .threshold) t,
     )
 
 pub effective-length-spec : {M : Type 1} → statement M
 effective-length-spec =
-    tie.close (tie.spec refused-requires returns set-requires louder-requires returns-2)
+    tie.close (tie.spec refused-requires returns set-requires last-loud-requires returns-2)

@@ -1,4 +1,4 @@
--- `allpass::response::loud` meets its contract: v1 is above t or below −t where its magnitude is above t.
+-- `allpass::response::later` meets its contract: v1 is above t or below −t where its magnitude is above t.
 -- Assumes nothing.
 use mathlib.Core.Path.{_≡_, refl}
 use mathlib.Core.Logic.{⊎-elim}
@@ -12,8 +12,8 @@ use mir.Val.{SFits, toZ, ofZ}
 use mir.Facts.{toZ-ofZ}
 use mir.ValLaws.{toZ-pos}
 use Rattle.integer.proofs.View.{absv, -v, onev, read, vfit, Zs}
-use Rattle.allpass.proofs.response.loud.Statement.{statement}
-use Rattle.allpass.proofs.response.loud.Tie as tie
+use Rattle.allpass.proofs.response.later.Statement.{statement}
+use Rattle.allpass.proofs.response.later.Tie as tie
 
 module _ (s : tie.Start) where
   abbrev t : ℕ
@@ -41,6 +41,9 @@ cast-t c = search needs
 sub-if2 : tie.Need-sub-if2
 sub-if2 c = let s = start (c .before) in rw (t-read s) (minus-fits s)
 
+add-result : tie.Need-add-result
+add-result c = omega arith
+
 returns : tie.Need-returns
 returns c =
     let b = c .before in
@@ -63,5 +66,5 @@ returns-2 c =
     let l = rw (t-read s, z-read b, toZ-ofZ (minus-fits s)) at (c .if2 .left) in
     rw (le-ltb (t s) (natAbs (z s)) (omega (Zs, absv (z s), onev (z s), -v (pos 0) (pos (t s)))))
 
-pub loud-spec : {M : Type 1} → statement M
-loud-spec = tie.close (tie.spec cast-t sub-if2 returns returns-2)
+pub later-spec : {M : Type 1} → statement M
+later-spec = tie.close (tie.spec cast-t sub-if2 add-result returns returns-2)
