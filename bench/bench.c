@@ -1,5 +1,5 @@
-/* Times the proved voice against plain C over the same scores, interleaved, in rounds over all rows, and prints a
-   table of the best times. Exit status 0 only where every number and every sample agrees. */
+/* Times the proved voice against plain C over the same scores and lists, interleaved, in rounds over all rows, and prints
+   a table of the best times. Exit status 0 only where every number and every sample agrees. */
 #include "../include/jivaszte.h"
 #include "bench.h"
 #include "plain.h"
@@ -7,21 +7,13 @@
 #include <string.h>
 #include <time.h>
 
-enum { ROUNDS = 20, RUNS = 15, SAMPLES = 1 << 17, RECORDS = 1 << 14, ROWS = 18 };
+enum { ROUNDS = 20, RUNS = 15, SAMPLES = 1 << 17, RECORDS = 1 << 14 };
 
 static const uint32_t waits[] = { 64, 1024, 65535 };
-static const char *const changes[] = { "none", "announced", "instant" };
-
-/* One row of the table: a kind of score, and what was found of it. */
-typedef struct {
-    uint32_t order, wait;
-    int change, agree;
-    double best[2];
-    size_t written, stack;
-} Row;
 
 /* A score is short enough to be played within one turn that the system gives a program. */
 static uint8_t score[16 * RECORDS];
+static size_t score_length;
 static int32_t output[2][SAMPLES];
 
 double seconds(void)
@@ -31,22 +23,31 @@ double seconds(void)
     return t.tv_sec + 1e-9 * t.tv_nsec;
 }
 
-/* Which of the two, 0 for C and 1 for the proved one: its run of a score, and how long it took. */
-static double run(int which, size_t length, Played *p)
+/* Which of the two, 0 for C and 1 for the proved one: its run of the score, and how long it took. */
+static double run(int which, Played *p)
 {
     double from = seconds();
-    p->refusal = (which ? jivaszte_run : plain_run)(score, length, output[which], SAMPLES, &p->place, &p->written);
+    p->refusal =
+        (which ? jivaszte_run : plain_run)(score, score_length, output[which], SAMPLES, &p->place, &p->written);
+    return seconds() - from;
+}
+
+/* The same of the list. */
+static double perform(int which, Played *p)
+{
+    double from = seconds();
+    perform_list(which, output[which], SAMPLES, p);
     return seconds() - from;
 }
 
 /* The same for reading every record; the sum of all numbers read is what must agree. */
-static double read_all(int which, size_t length, Played *p)
+static double read_all(int which, Played *p)
 {
     size_t (*read)(const uint8_t *, size_t, uint32_t *) = which ? jivaszte_record : plain_record;
     uint32_t fields[JIVASZTE_FIELDS] = { 0 };
     memset(p, 0, sizeof *p);
     double from = seconds();
-    for (size_t at = 0, took; at < length && (took = read(score + at, length - at, fields)) > 0; at += took) {
+    for (size_t at = 0, took; at < score_length && (took = read(score + at, score_length - at, fields)) > 0; at += took) {
         for (int i = 0; i < JIVASZTE_FIELDS; i++)
             p->written = 31 * p->written + fields[i];
         p->place++;
@@ -56,7 +57,7 @@ static double read_all(int which, size_t length, Played *p)
 }
 
 /* Several runs of each in turn: the best times so far are kept, and what was done is told. 0 where the two differ. */
-static int best_of(double (*timed)(int, size_t, Played *), size_t length, double best[2], Played *done)
+static int best_of(double (*timed)(int, Played *), double best[2], Played *done)
 {
     Played p[2];
     memset(p, 0, sizeof p);
@@ -66,7 +67,7 @@ static int best_of(double (*timed)(int, size_t, Played *), size_t length, double
         memset(output[1], 90, sizeof output[1]);
         for (int k = 0; k < 2; k++) {
             int which = (i + k) % 2;
-            double t = timed(which, length, &p[which]);
+            double t = timed(which, &p[which]);
             best[which] = best[which] == 0 || t < best[which] ? t : best[which];
         }
         if (memcmp(&p[0], &p[1], sizeof p[0]) || memcmp(output[0], output[1], sizeof output[0]))
@@ -85,62 +86,49 @@ static size_t sounding(size_t written)
     return n;
 }
 
-/* One more round of a row: whether the two agree, and on a score that was played to its end and sounds. */
+/* What is played on a painted stack. */
+static Played once;
+
+static void run_once(void) { jivaszte_run(score, score_length, output[1], SAMPLES, &once.place, &once.written); }
+
+static void perform_once(void) { perform_list(1, output[1], SAMPLES, &once); }
+
+/* One more round of a row: whether the two agree, and on what was played to its end, without a refusal, and sounds. */
 static int again(Row *r)
 {
     Played p;
-    size_t length = make_score(score, r->order, r->change, r->wait, SAMPLES);
-    int same = best_of(run, length, r->best, &p);
+    int asks = r->change == ASKED_CHANGE;
+    if (asks)
+        make_list(r->order, r->wait, SAMPLES);
+    else
+        score_length = make_score(score, r->order, r->change, r->wait, SAMPLES);
+    int same = best_of(asks ? perform : run, r->best, &p);
     r->written = p.written;
-    r->stack = stack_of_run(score, length, output[1], SAMPLES);
-    return same && p.refusal == JIVASZTE_DONE && p.written > SAMPLES - r->wait && 2 * sounding(p.written) > p.written;
-}
-
-static void print(const Row *r)
-{
-    printf("| %u | %s | %u | %.0f | %.0f | %.2f | %zu | %s |\n", r->order, changes[r->change], r->wait,
-           r->written / r->best[0] / 1e6, r->written / r->best[1] / 1e6, r->best[0] / r->best[1], r->stack,
-           r->agree ? "yes" : "NO");
-}
-
-/* What a sample, a record and a change with its eliminator cost, in nanoseconds, from the rows of one order. */
-static void costs(const Row *none, const Row *announced, const Row *instant)
-{
-    for (int k = 0; k < 2; k++) {
-        double sample = none[2].best[k] / none[2].written, record = none[0].best[k] / none[0].written;
-        double a = announced[0].best[k] / announced[0].written, i = instant[0].best[k] / instant[0].written;
-        printf("| %u | %s | %.2f | %.0f | %.0f | %.0f |\n", none->order, k ? "proved" : "C", 1e9 * sample,
-               64e9 * (record - sample), 64e9 * (a - record), 64e9 * (i - record));
-    }
+    r->stack = stack_of(asks ? perform_once : run_once);
+    same &= p.refusal == JIVASZTE_DONE && (p.place == 0 || !asks);
+    return same && p.written > SAMPLES - r->wait && 2 * sounding(p.written) > p.written;
 }
 
 int main(void)
 {
     static Row rows[ROWS];
-    double best[2] = { 0, 0 }, wav[2][2] = { { 0, 0 }, { 0, 0 } }, least[2] = { 1e9, 1e9 };
+    double best[2] = { 0, 0 }, wav[2][2] = { { 0, 0 }, { 0, 0 } };
     Played p;
     int agree = 1;
-    for (int i = 0; i < ROWS; i++)
+    for (int i = 0; i < SCORES; i++)
         rows[i] = (Row){ .order = i / 3 % 2 + 1, .change = i / 6, .wait = waits[i % 3], .agree = 1 };
+    for (int i = SCORES; i < ROWS; i++)
+        rows[i] = (Row){ .order = i - SCORES + 1, .change = ASKED_CHANGE, .wait = waits[1], .agree = 1 };
     for (int round = 0; round < ROUNDS; round++) {
         for (int i = 0; i < ROWS; i++)
             rows[i].agree &= again(&rows[i]);
-        agree &= best_of(read_all, make_records(score, RECORDS), best, &p) && p.place == RECORDS;
+        score_length = make_records(score, RECORDS);
+        agree &= best_of(read_all, best, &p) && p.place == RECORDS;
         agree &= time_recording(0, wav[0]) && time_recording(1, wav[1]);
     }
-    printf("| order | changes | wait | C, million samples a second | proved | ratio | bytes of stack | all agree |\n");
-    printf("|---|---|---|---|---|---|---|---|\n");
-    for (int i = 0; i < ROWS; i++) {
-        double ratio = rows[i].best[0] / rows[i].best[1], *low = &least[rows[i].wait > 64];
-        *low = ratio < *low ? ratio : *low;
+    for (int i = 0; i < ROWS; i++)
         agree &= rows[i].agree;
-        print(&rows[i]);
-    }
-    printf("\nleast ratio at waits of 64: %.3f; of 1,024 and more: %.3f\n", least[0], least[1]);
-    printf("\n| order | nanoseconds of | a sample | a record | an announced change | an instant change |\n");
-    printf("|---|---|---|---|---|---|\n");
-    costs(rows, rows + 6, rows + 12);
-    costs(rows + 3, rows + 9, rows + 15);
+    print_rows(rows);
     printf("\nrecord reader: C %.0f, proved %.0f million records a second, ratio %.2f\n", RECORDS / best[0] / 1e6,
            RECORDS / best[1] / 1e6, best[0] / best[1]);
     for (int k = 0; k < 2; k++)

@@ -31,21 +31,12 @@ static uint32_t act(Voice *v, const uint32_t r[9])
     if (map & 8)
         v->loss = r[5];
     if (map & 6) {
-        uint32_t code = change(v, map & 2 ? r[3] : v->filter.length, map & 4 ? r[4] : v->filter.delay, map >> 7);
+        uint32_t code = change(v, map & 2 ? r[3] : v->filter.length, map & 4 ? r[4] : v->filter.delay,
+                               map >> 7 ? INSTANT : ANNOUNCED);
         if (code)
             return code;
     }
-    if (map & 16) {
-        uint32_t count = map & 32 ? r[7] : 100;
-        if (r[6] > 255)
-            return 7;
-        if (outside(count, 1, 2048))
-            return 8;
-        v->amplitude = r[6];
-        v->left = count;
-        v->noise = r[8];
-    }
-    return 0;
+    return map & 16 ? pluck(v, r[6], map & 32 ? r[7] : 100, r[8]) : 0;
 }
 
 uint32_t plain_run(const uint8_t *score, size_t bytes, int32_t *output, size_t room, size_t *place, size_t *written)
@@ -55,25 +46,16 @@ uint32_t plain_run(const uint8_t *score, size_t bytes, int32_t *output, size_t r
     *place = *written = 0;
     if (bytes < 8)
         return 14;
-    memset(&v, 0, sizeof v);
-    v.order = score[0];
-    v.advance = score[1];
-    if (outside(v.order, 1, 2))
-        return 1;
-    uint32_t code = untuned(v.order, word(score + 2), word(score + 4));
+    uint32_t code = open_voice(&v, score[0], word(score + 2), word(score + 4), word(score + 6), score[1]);
     if (code)
         return code;
-    if (v.advance > 64)
-        return 5;
-    v.filter = resting(v.order, word(score + 2), word(score + 4));
-    v.loss = word(score + 6);
     for (size_t at = 8; at < bytes; ++*place) {
         size_t took = plain_record(score + at, bytes - at, r);
         if (r[0])
             return r[0];
         if (room - *written < r[2])
             return 16;
-        render(&v, output + *written, r[2]);
+        render(&v, NULL, output + *written, r[2]);
         *written += r[2];
         if ((code = act(&v, r)))
             return code;

@@ -74,7 +74,7 @@ static void run(const char *what, const uint8_t *score, size_t length, size_t ro
     printf("\n");
 }
 
-static void perform(const char *what, uint32_t order, const uint32_t *words, size_t count)
+static void perform(const char *what, uint32_t order, uint32_t advance, const uint32_t *words, size_t count)
 {
     static const int32_t input[] = { 1000, 0, 0, 0, 0, 0, 0, 0 };
     int32_t output[12];
@@ -84,7 +84,7 @@ static void perform(const char *what, uint32_t order, const uint32_t *words, siz
     for (int i = 0; i < 6; i++)
         numbers[i] = 77;
     size_t written = 7;
-    uint32_t refusal = jivaszte_perform(order, 3, 4096, 32768, 0, words, count, input, 8, output, 12, numbers, 6,
+    uint32_t refusal = jivaszte_perform(order, 3, 4096, 32768, advance, words, count, input, 8, output, 12, numbers, 6,
                                         &opening, &written);
     printf("perform %s: %u %u %zu,", what, refusal, opening, written);
     for (int i = 0; i < 6; i++)
@@ -136,6 +136,15 @@ int main(void)
         JIVASZTE_CALL_BLOCK, 6, 6, 0, JIVASZTE_CALL_BLOCK, 1, 2, 0, JIVASZTE_CALL_LOSS, 65536, 0, 0,
         JIVASZTE_CALL_INSTANT, 1, 4096, 0, JIVASZTE_CALL_ANNOUNCE, 2, 6145, 0, JIVASZTE_CALL_BLOCK, 1, 1, 0,
     };
+    static const uint32_t asks[] = {
+        JIVASZTE_CALL_BLOCK, 2, 2, 0, JIVASZTE_CALL_ASK, 2, 6144, 0, JIVASZTE_CALL_COMMIT, 0, 0, 0,
+        JIVASZTE_CALL_BLOCK, 3, 3, 0, JIVASZTE_CALL_COMMIT, 0, 0, 0, JIVASZTE_CALL_BLOCK, 3, 3, 0,
+    };
+    static const uint32_t drops[] = {
+        JIVASZTE_CALL_ASK, 2, 6144, 0, JIVASZTE_CALL_BLOCK, 8, 8, 0, JIVASZTE_CALL_WITHDRAW, 0, 0, 0,
+        JIVASZTE_CALL_COMMIT, 0, 0, 0, JIVASZTE_CALL_ANNOUNCE, 2, 6144, 0, JIVASZTE_CALL_WITHDRAW, 0, 0, 0,
+    };
+    static const uint32_t unknown[] = { JIVASZTE_CALL_WITHDRAW + 1, 0, 0, 0 };
     uint32_t noise = 0;
 
     coefficients(1, 2979);
@@ -166,10 +175,13 @@ int main(void)
     run("of a header cut short", paper, 7, 16);
     run("of a change that waits", waits, sizeof waits, 16);
     run("of nothing", paper, 0, 0);
-    perform("six calls", 1, calls, 24);
-    perform("a block on the voice of a refused opening", 0, calls, 4);
-    perform("a call cut short", 1, calls, 7);
-    perform("nothing", 1, calls, 0);
+    perform("six calls", 1, 0, calls, 24);
+    perform("an asked change, committed too early and then a sample late", 1, 2, asks, 24);
+    perform("an asked change, withdrawn, and an announced one", 1, 2, drops, 24);
+    perform("a block on the voice of a refused opening", 0, 0, calls, 4);
+    perform("a call cut short", 1, 0, calls, 7);
+    perform("a call of no kind", 1, 0, unknown, 4);
+    perform("nothing", 1, 0, calls, 0);
     wav_write(44100, samples, 2, 56);
     wav_write(192000, samples, 1, 48);
     wav_write(8000, samples, 0, 44);
@@ -181,8 +193,8 @@ int main(void)
     wav_read("in two places", file, sizeof file, 2);
     wav_read("without its pad byte", file, sizeof file - 1, 4);
     wav_read("of nothing", file, 0, 4);
-    for (uint32_t number = JIVASZTE_DONE; number <= JIVASZTE_FILE_FORM; number++)
-        if (jivaszte_words(number) == jivaszte_words(JIVASZTE_FILE_FORM + 1))
+    for (uint32_t number = JIVASZTE_DONE; number <= JIVASZTE_NOTHING_ASKED; number++)
+        if (jivaszte_words(number) == jivaszte_words(JIVASZTE_NOTHING_ASKED + 1))
             return 1;
     return 0;
 }

@@ -37,10 +37,10 @@ fn run(what: &str, score: &[u8], room: usize) {
     println!();
 }
 
-fn perform(what: &str, order: u32, words: &[u32]) {
+fn perform(what: &str, order: u32, advance: u32, words: &[u32]) {
     let input = [1000, 0, 0, 0, 0, 0, 0, 0];
     let (mut output, mut numbers) = ([7; 12], [77; 6]);
-    let r = jivaszte::perform([order, 3, 4096, 32_768, 0], words, &input, &mut output, &mut numbers);
+    let r = jivaszte::perform([order, 3, 4096, 32_768, advance], words, &input, &mut output, &mut numbers);
     print!("perform {what}: {} {} {},", r.refusal, r.opening, r.written);
     numbers.iter().for_each(|n| print!(" {n}"));
     print!(",");
@@ -80,6 +80,8 @@ fn main() {
     let every = [255, 1, 2, 3, 4, 5, 6, 7, 8, 9, 10, 11, 12, 13, 14, 99];
     let seed = [64, 1, 2];
     let calls = [0, 6, 6, 0, 0, 1, 2, 0, 1, 65_536, 0, 0, 4, 1, 4096, 0, 3, 2, 6145, 0, 0, 1, 1, 0];
+    let asks = [0, 2, 2, 0, 5, 2, 6144, 0, 6, 0, 0, 0, 0, 3, 3, 0, 6, 0, 0, 0, 0, 3, 3, 0];
+    let drops = [5, 2, 6144, 0, 0, 8, 8, 0, 7, 0, 0, 0, 6, 0, 0, 0, 3, 2, 6144, 0, 7, 0, 0, 0];
     let mut noise = 0;
 
     coefficients(1, 2979);
@@ -111,10 +113,13 @@ fn main() {
     run("of a header cut short", &paper[..7], 16);
     run("of a change that waits", &waits, 16);
     run("of nothing", &[], 0);
-    perform("six calls", 1, &calls);
-    perform("a block on the voice of a refused opening", 0, &calls[..4]);
-    perform("a call cut short", 1, &calls[..7]);
-    perform("nothing", 1, &[]);
+    perform("six calls", 1, 0, &calls);
+    perform("an asked change, committed too early and then a sample late", 1, 2, &asks);
+    perform("an asked change, withdrawn, and an announced one", 1, 2, &drops);
+    perform("a block on the voice of a refused opening", 0, 0, &calls[..4]);
+    perform("a call cut short", 1, 0, &calls[..7]);
+    perform("a call of no kind", 1, 0, &[8, 0, 0, 0]);
+    perform("nothing", 1, 0, &[]);
     wav_write(44_100, &samples[..2], 56);
     wav_write(192_000, &samples[..1], 48);
     wav_write(8_000, &[], 44);

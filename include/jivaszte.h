@@ -39,7 +39,9 @@ enum {
     JIVASZTE_OUTPUT_FULL = 16,
     JIVASZTE_RECORDING_RATE = 17,
     JIVASZTE_ROOM = 18,
-    JIVASZTE_FILE_FORM = 19
+    JIVASZTE_FILE_FORM = 19,
+    JIVASZTE_COMMIT_EARLY = 20,
+    JIVASZTE_NOTHING_ASKED = 21
 };
 
 /* The words of such a number. */
@@ -66,6 +68,8 @@ static inline const char *jivaszte_words(uint32_t number)
         "the recording's rate is outside 8000 to 192000",
         "there are more than 1000000 samples, or the lent slice is too short",
         "the bytes are no WAV file of one channel and 24 bits in the form that is written",
+        "the asked change has taken fewer samples than the advance",
+        "no asked change waits",
     };
     return number < sizeof words / sizeof words[0] ? words[number] : "no number of a refusal";
 }
@@ -123,6 +127,15 @@ size_t jivaszte_record(const uint8_t *score, size_t length, uint32_t fields[JIVA
        pluck      amplitude, count, seed
        announce   length, delay
        instant    length, delay
+       ask        length, delay
+       commit     nothing
+       withdraw   nothing
+   An announced change takes effect when its second copy of the filter has taken as many samples as the advance. An asked
+   one waits for its commit, also with an advance of 0, and its second copy takes each sample until then; a commit puts it
+   in force before the next sample, and a withdrawal drops it. One change waits at a time: an announced, instant or asked
+   one is refused by 6 while an announced or asked one waits. A commit is refused by 21 where no asked change waits, and
+   then by 20 where fewer samples than the advance were put out since the ask; a withdrawal by 21. An announced change
+   counts there as nothing asked.
    What a block puts out follows in the output what the blocks before it put out; a refused block takes its input and puts
    out nothing. numbers has what each call returned, opening what the opening returned, which makes a voice also where
    it refuses; written is how many samples the calls put out. Refuses by 31, before anything is done, where the words are
@@ -132,7 +145,10 @@ enum {
     JIVASZTE_CALL_LOSS = 1,
     JIVASZTE_CALL_PLUCK = 2,
     JIVASZTE_CALL_ANNOUNCE = 3,
-    JIVASZTE_CALL_INSTANT = 4
+    JIVASZTE_CALL_INSTANT = 4,
+    JIVASZTE_CALL_ASK = 5,
+    JIVASZTE_CALL_COMMIT = 6,
+    JIVASZTE_CALL_WITHDRAW = 7
 };
 uint32_t jivaszte_perform(uint32_t order, uint32_t length, uint32_t delay, uint32_t loss, uint32_t advance,
                           const uint32_t *words, size_t count, const int32_t *input, size_t samples, int32_t *output,

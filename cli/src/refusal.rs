@@ -36,6 +36,8 @@ mod tests {
     fn words_are_found() {
         assert_eq!((words(0), words(6)), ("done", "a change waits"));
         assert_eq!(words(16), "the wait does not fit the output that is left");
+        assert_eq!(words(20), "the asked change has taken fewer samples than the advance");
+        assert_eq!(words(21), "no asked change waits");
         assert_eq!(words(1_000), "no number of a refusal");
     }
 

@@ -13,6 +13,9 @@ pub enum Call {
     Pluck { amplitude: u32, count: u32, seed: u32 },
     Announced { length: u32, delay: u32 },
     Instant { length: u32, delay: u32 },
+    Asked { length: u32, delay: u32 },
+    Commit,
+    Withdraw,
     Block { input: Vec<i32>, places: usize },
 }
 
@@ -39,6 +42,9 @@ impl Call {
             Call::Instant { length, delay } => {
                 (made.answer, made.count) = voice.instant_change(*length, *delay);
             }
+            Call::Asked { length, delay } => made.answer = voice.ask(*length, *delay),
+            Call::Commit => made.answer = voice.commit(),
+            Call::Withdraw => made.answer = voice.withdraw(),
             Call::Block { input, places } => {
                 made.output = vec![UNTOUCHED; *places];
                 made.answer = voice.block(input, &mut made.output);

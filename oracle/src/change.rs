@@ -1,16 +1,16 @@
-//! The announced and the instant change of L and d, with their eliminator.
+//! The announced, the asked and the instant change of L and d, with their eliminator.
 
 use crate::allpass::Allpass;
 use crate::refusal::{require, Answer, Refusal};
 use crate::thiran::test_delay;
-use crate::voice::{s_at, test_length, Tuning, Voice, Waiting};
+use crate::voice::{s_at, test_length, Kind, Tuning, Voice, Waiting};
 
 impl Waiting {
     /// A change whose eliminator is at rest and has taken nothing.
-    fn at_rest(order: u32, length: u32, delay: u32) -> Waiting {
+    fn at_rest(kind: Kind, order: u32, length: u32, delay: u32) -> Waiting {
         let filter = Allpass::at_rest(order, delay);
         let tuning = Tuning { length, delay, filter };
-        Waiting { tuning, taken: 0 }
+        Waiting { kind, tuning, taken: 0 }
     }
 
     /// "its eliminator takes s(n − L')": the eliminator's own length, at step `n`.
@@ -19,20 +19,30 @@ impl Waiting {
         self.tuning.filter.eliminate(f);
         self.taken += 1;
     }
+
+    /// The samples taken as a voice holds and shows them: "counted to Na".
+    pub fn counted(&self, advance: u32) -> u32 {
+        self.taken.min(advance)
+    }
 }
 
 impl Voice {
-    /// "Announced and instant change: 2, 3, then 6 a change waits."
+    /// "Announced and instant change: 2, 3, then 6 a change waits." "Asking tests what a change
+    /// tests". "A change that was asked for counts as waiting."
     fn test_change(&self, length: u32, d: u32) -> Answer {
         test_length(length)?;
         test_delay(self.order, d)?;
         require(self.waiting.is_none(), Refusal::ChangeWaits)
     }
 
-    /// "If the eliminator has now taken Na samples, L', d' and its state replace the voice's".
+    /// "If the eliminator has now taken Na samples, L', d' and its state replace the voice's". "An
+    /// announced change acts as an ask that commits itself"; the eliminator of an asked one "keeps
+    /// running".
     pub fn put_in_force(&mut self) {
         let advance = self.advance;
-        if let Some(change) = self.waiting.take_if(|change| change.taken == advance) {
+        let is_ready =
+            |change: &mut Waiting| change.kind == Kind::Announced && change.taken == advance;
+        if let Some(change) = self.waiting.take_if(is_ready) {
             self.tuning = change.tuning;
         }
     }
@@ -41,8 +51,38 @@ impl Voice {
     /// from rest, and never waits." Refused, "The voice is unchanged".
     pub fn announced_change(&mut self, length: u32, d: u32) -> Answer {
         self.test_change(length, d)?;
-        self.waiting = Some(Waiting::at_rest(self.order, length, d));
+        self.waiting = Some(Waiting::at_rest(Kind::Announced, self.order, length, d));
         self.put_in_force();
+        Ok(())
+    }
+
+    /// "Asking starts the eliminator", which "waits even with Na 0".
+    pub fn ask(&mut self, length: u32, d: u32) -> Answer {
+        self.test_change(length, d)?;
+        self.waiting = Some(Waiting::at_rest(Kind::Asked, self.order, length, d));
+        Ok(())
+    }
+
+    /// "21 commit or withdraw with nothing asked"; an announced change "counts as nothing asked".
+    fn asked(&self) -> Result<&Waiting, Refusal> {
+        let waiting = self.waiting.as_ref();
+        waiting.filter(|change| change.kind == Kind::Asked).ok_or(Refusal::NothingAsked)
+    }
+
+    /// "committing switches before the next sample". "20 commit before Na samples were taken"; "21
+    /// is tested first and the voice is unchanged."
+    pub fn commit(&mut self) -> Answer {
+        let change = self.asked()?;
+        require(change.taken >= self.advance, Refusal::CommitEarly)?;
+        self.tuning = change.tuning.clone();
+        self.waiting = None;
+        Ok(())
+    }
+
+    /// "withdrawing drops it."
+    pub fn withdraw(&mut self) -> Answer {
+        self.asked()?;
+        self.waiting = None;
         Ok(())
     }
 
@@ -55,7 +95,7 @@ impl Voice {
             return (answer, 0);
         }
         let n = self.s.len() as i128;
-        let mut change = Waiting::at_rest(self.order, length, d);
+        let mut change = Waiting::at_rest(Kind::Announced, self.order, length, d);
         for k in n - i128::from(self.advance)..n {
             change.take(&self.s, k);
         }

@@ -4,16 +4,19 @@ use crate::allpass::Allpass;
 use crate::call::Call;
 use crate::voice::{s_at, Voice};
 
-/// An accepted change to L' and d' with e, the step before which it takes effect.
+/// An accepted change to L' and d' with e, the step before which it takes effect, and the number of
+/// samples that its second copy took before: Na, or for a committed one "the number of samples the
+/// eliminator actually took, those put out between asking and committing".
 #[derive(Clone, Debug)]
 pub struct Change {
     pub length: u32,
     pub delay: u32,
     pub effect: usize,
+    pub taken: usize,
 }
 
 /// A list of calls made from what Open returned: N, Na, every s(n), the samples y(m) that the
-/// blocks wrote, and the accepted changes in the order called.
+/// blocks wrote, and the accepted changes in the order called, a committed one at its commit.
 #[derive(Clone, Debug)]
 pub struct History {
     pub order: u32,
@@ -23,20 +26,22 @@ pub struct History {
     pub changes: Vec<Change>,
 }
 
-/// How much was compared: changes with at least one step, their steps, the steps at which
-/// equality was claimed, and the steps at which y and the new filter differed.
+/// How much was compared: changes with at least one step, those of them that were committed after
+/// more samples than Na, the steps of all, the steps at which equality was claimed, and the steps at
+/// which y and the new filter differed.
 #[derive(Clone, Copy, Debug, Default)]
 pub struct Tally {
     pub changes: u64,
+    pub late: u64,
     pub steps: u64,
     pub equal: u64,
     pub differing: u64,
 }
 
 /// The greatest difference allowed: with k = floor((Na + j)/N), 3·2^(23 − k) where k is at most
-/// 23, and 2 where k is larger.
-pub fn figure(order: u32, advance: u32, j: usize) -> i128 {
-    let k = (advance as usize + j) / order as usize;
+/// 23, and 2 where k is larger. Of a committed change the samples taken stand "in place of Na".
+pub fn figure(order: u32, taken: usize, j: usize) -> i128 {
+    let k = (taken + j) / order as usize;
     if k <= 23 {
         3 << (23 - k)
     } else {
@@ -46,24 +51,32 @@ pub fn figure(order: u32, advance: u32, j: usize) -> i128 {
 
 /// "s is worked out by the sample rule from what Open returned and the list alone". "An accepted
 /// change called before step c takes effect before step e, where e is c + Na if it is announced and
-/// c if it is instant."
+/// c if it is instant." A committed one takes effect before the step of its commit; an ask that was
+/// withdrawn is no change.
 pub fn history(opened: &Voice, list: &[Call]) -> History {
     let mut voice = opened.clone();
     let (mut y, mut changes) = (Vec::new(), Vec::new());
+    let advance = voice.advance as usize;
+    let mut asked = None;
     for call in list {
         let c = voice.s.len();
         let made = call.make(&mut voice);
         if made.answer.is_err() {
             continue;
         }
-        match call {
+        match *call {
             Call::Announced { length, delay } => {
-                let effect = c + voice.advance as usize;
-                changes.push(Change { length: *length, delay: *delay, effect });
+                changes.push(Change { length, delay, effect: c + advance, taken: advance });
             }
             Call::Instant { length, delay } => {
-                changes.push(Change { length: *length, delay: *delay, effect: c });
+                changes.push(Change { length, delay, effect: c, taken: advance });
             }
+            Call::Asked { length, delay } => asked = Some((length, delay, c)),
+            Call::Commit => {
+                let (length, delay, began) = asked.take().expect("an accepted commit has its ask");
+                changes.push(Change { length, delay, effect: c, taken: c - began });
+            }
+            Call::Withdraw => asked = None,
             Call::Block { .. } => y.extend(made.output.iter().map(|sample| i128::from(*sample))),
             Call::Loss { .. } | Call::Pluck { .. } => {}
         }
@@ -73,9 +86,10 @@ pub fn history(opened: &Voice, list: &[Call]) -> History {
 
 impl History {
     /// "Before the second copy began, the new filter read s(i − L') for i from 0 to e − Na − 1, and
-    /// nothing where e is at most Na." Whether all of that is zero.
+    /// nothing where e is at most Na." Of a committed change it began at the ask. Whether all of that
+    /// is zero.
     fn read_zeros(&self, change: &Change) -> bool {
-        let steps = change.effect.saturating_sub(self.advance as usize);
+        let steps = change.effect.saturating_sub(change.taken);
         let length = i128::from(change.length);
         (0..steps as i128).all(|i| s_at(&self.s, i - length) == 0)
     }
@@ -92,7 +106,7 @@ impl History {
             }
             let allowed = match equal {
                 true => 0,
-                false => figure(self.order, self.advance, m - change.effect),
+                false => figure(self.order, change.taken, m - change.effect),
             };
             let difference = (self.y[m] - new).abs();
             if difference > allowed {
@@ -107,7 +121,9 @@ impl History {
             tally.equal += u64::from(equal);
             tally.differing += u64::from(difference > 0);
         }
-        tally.changes += u64::from(change.effect < end);
+        let compared = change.effect < end;
+        tally.changes += u64::from(compared);
+        tally.late += u64::from(compared && change.taken > self.advance as usize);
         Ok(())
     }
 

@@ -134,6 +134,9 @@ fn command(name: &[u8], rest: &[&[u8]]) -> Option<Command> {
         b"instant" => {
             numbers(rest).map(|[length, delay]| Command::Call(Call::Instant { length, delay }))
         }
+        b"ask" => numbers(rest).map(|[length, delay]| Command::Call(Call::Asked { length, delay })),
+        b"commit" => rest.is_empty().then_some(Command::Call(Call::Commit)),
+        b"withdraw" => rest.is_empty().then_some(Command::Call(Call::Withdraw)),
         b"block" => block(rest),
         b"coefficients" => {
             numbers(rest).map(|[order, delay]| Command::Coefficients { order, delay })

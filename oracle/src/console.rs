@@ -72,7 +72,8 @@ impl Default for Console {
 }
 
 impl Console {
-    /// `state N L D G NA LAST V1 V2 WAITS L' D' TAKEN E1 E2 AMPLITUDE LEFT NOISE`
+    /// `state N L D G NA LAST V1 V2 WAITS L' D' TAKEN E1 E2 AMPLITUDE LEFT NOISE`: WAITS is the
+    /// kind, TAKEN is counted up to Na.
     fn answer_state(&self) -> String {
         let voice = &self.voice;
         let mut values =
@@ -82,8 +83,9 @@ impl Console {
         values.extend(two(voice.tuning.filter.state()));
         match &voice.waiting {
             Some(change) => {
-                values.extend([1, change.tuning.length, change.tuning.delay].map(i128::from));
-                values.push(i128::from(change.taken));
+                let (length, delay) = (change.tuning.length, change.tuning.delay);
+                let taken = change.counted(voice.advance);
+                values.extend([change.kind as u32, length, delay, taken].map(i128::from));
                 values.extend(two(change.tuning.filter.state()));
             }
             None => values.extend([0; 6]),
@@ -110,6 +112,9 @@ impl Console {
             Call::Pluck { .. } => format!("pluck {answer}"),
             Call::Announced { .. } => format!("announce {answer}"),
             Call::Instant { .. } => format!("instant {answer} {}", made.count),
+            Call::Asked { .. } => format!("ask {answer}"),
+            Call::Commit => format!("commit {answer}"),
+            Call::Withdraw => format!("withdraw {answer}"),
             Call::Block { .. } => join(&format!("block {answer}"), made.output),
         }
     }

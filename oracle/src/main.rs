@@ -71,7 +71,8 @@ fn print_report(report: &Report) -> Result<(), String> {
     }
     let tally = &report.tally;
     print(&format!("error lines: {}\n", report.errors))?;
-    print(&format!("demand 3: changes compared {}, steps {}, ", tally.changes, tally.steps))?;
+    print(&format!("demand 3: changes compared {}, ", tally.changes))?;
+    print(&format!("committed late {}, steps {}, ", tally.late, tally.steps))?;
     print(&format!("equality claimed at {}, difference at {}\n", tally.equal, tally.differing))
 }
 

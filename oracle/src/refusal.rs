@@ -41,6 +41,10 @@ pub enum Refusal {
     Room = 18,
     /// Document 02: "19 a file with other header values ..."
     FileForm = 19,
+    /// Document 02: "20 commit before Na samples were taken"
+    CommitEarly = 20,
+    /// Document 02: "21 commit or withdraw with nothing asked"
+    NothingAsked = 21,
 }
 
 /// What a call answers besides its values.

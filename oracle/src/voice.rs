@@ -15,9 +15,18 @@ pub struct Tuning {
     pub filter: Allpass,
 }
 
-/// "a waiting change", with the number of samples that its eliminator has taken.
+/// How a waiting change came: announced, or asked for (document 02, L3). The number is the one by
+/// which the console shows it.
+#[derive(Clone, Copy, Debug, PartialEq, Eq)]
+pub enum Kind {
+    Announced = 1,
+    Asked = 2,
+}
+
+/// "a waiting change", with the number of samples that its eliminator has really taken.
 #[derive(Clone, Debug)]
 pub struct Waiting {
+    pub kind: Kind,
     pub tuning: Tuning,
     pub taken: u32,
 }
@@ -105,7 +114,7 @@ impl Voice {
         let sum = y + self.last_output();
         let s = clip(p + floor_div(i128::from(self.loss) * sum + 65_536, 131_072));
         // "4. s(n) goes into the line. If the eliminator has now taken Na samples, L', d' and its
-        // state replace the voice's, from step n + 1 on."
+        // state replace the voice's, from step n + 1 on." An asked change waits for its commit.
         self.s.push(s);
         self.y.push(y);
         self.put_in_force();

@@ -99,7 +99,7 @@ fn parse(file: &[u8]) -> Option<(u32, &[u8])> {
     let size = rest.number(4)? as usize;
     let data = rest.take(size)?;
     let pad: &[u8] = if size % 2 == 1 { &[0] } else { &[] };
-    (size % 3 == 0 && rest.0 == pad).then_some((rate as u32, data))
+    (size.is_multiple_of(3) && rest.0 == pad).then_some((rate as u32, data))
 }
 
 /// "A stored −8,388,608 reads as −M."

@@ -10,6 +10,7 @@ fn texts() {
     }
     assert!(report.refusals.iter().all(|count| *count > 0), "{:?}", report.refusals);
     assert!(report.errors > 0 && report.tally.equal > 0 && report.tally.differing > 0);
+    assert!(report.tally.late > 20, "{:?}", report.tally);
 }
 
 #[test]

@@ -26,6 +26,14 @@ fn a_voice() {
         ("block 1 8388608", "block 10 77"),
         ("loss 65536", "loss 4"),
         ("open 1 0 4096 32768 2", "open 2"),
+        ("ask 0 2049", "ask 2"),
+        ("ask 7 2049", "ask 0"),
+        ("withdraw", "withdraw 0"),
+        ("withdraw", "withdraw 21"),
+        ("commit", "commit 21"),
+        ("ask 9 2049", "ask 0"),
+        ("state", "state 1 1 4096 0 0 0 0 0 2 9 2049 0 0 0 0 0 0"),
+        ("commit", "commit 0"),
         ("instant 7 2049", "instant 0 0"),
         ("state", "state 1 7 2049 0 0 0 0 0 0 0 0 0 0 0 0 0 0"),
     ]);
@@ -51,9 +59,10 @@ fn routines() {
 #[test]
 fn lines_that_are_not_right() {
     let text = "\n# nothing\nopen 1 2 3\n \t\nstate # yes\nblock 1 +1\nblock 1 -\nline 2113\n\
-                block 4097\nrun 16385\nrecord 1\ndraw 4294967296\nDraw 1\nloss 007";
+                block 4097\nrun 16385\nrecord 1\ndraw 4294967296\nDraw 1\ncommit 1\n\
+                withdraw 0\nask 3\nloss 007";
     let expected =
         "error 3\nstate 1 1 4096 0 0 0 0 0 0 0 0 0 0 0 0 0 0\nerror 6\nerror 7\nerror 8\n\
-                    error 9\nerror 10\nerror 11\nerror 12\nerror 13\nloss 0\n";
+                    error 9\nerror 10\nerror 11\nerror 12\nerror 13\nerror 14\nerror 15\nerror 16\nloss 0\n";
     assert_eq!(answers(text.as_bytes()), expected);
 }

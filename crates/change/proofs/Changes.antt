@@ -6,8 +6,7 @@ use mathlib.Core.List.{List}
 use mathlib.Core.Option.{none, some}
 use Prim.Native.Nat.{ℕ}
 use native.Mathlib.Omega.{arith}
-use borrow.Author.Tests.{eq-eqb, ne-eqb, eqb-true, eqb-false}
-use lib.Dec.{eqb}
+use borrow.Author.Tests.{eq-eqb, ne-eqb}
 use lib.IntN.{ℤ}
 use Rattle.integer.specs.Rounding.{M}
 use Rattle.allpass.specs.Allpass as Allpass
@@ -15,30 +14,32 @@ use Rattle.allpass.specs.Allpass.{run}
 use Rattle.allpass.specs.Bounds.{Within}
 use Rattle.line.specs.Ring.{ring}
 use Rattle.rule.specs.Voice as Rule
-use Rattle.rule.specs.Voice.{Voice, A, rest, settled, tuned}
-use Rattle.rule.specs.Calls.{announce, instant, number, window, to, announced, done, count}
+use Rattle.rule.specs.Voice.{Voice, A, commits, tuned, settled}
+use Rattle.rule.specs.Calls.{Call, prepare, instant, number, window, start, to, done, count}
 use Rattle.rule.specs.State.{back}
 use Rattle.voice.specs.declared.Tuning.{Tuning}
 use Rattle.voice.specs.declared.Filter.{Filter}
-use Rattle.voice.specs.declared.Waiting.the-variants.{Idle, Announced}
+use Rattle.voice.specs.declared.Kind.{Kind}
+use Rattle.voice.specs.declared.Waiting.the-variants.{Idle, Prepared}
 use Rattle.voice.specs.declared.Head.{Head}
-use Rattle.voice.specs.Struct.{tuningOf, voiceOf, withOf, settledOf}
+use Rattle.voice.specs.Struct.{tuningOf, kindOf, voiceOf, withOf, settledOf}
 use Rattle.voice.specs.Valid.{Preparing, Fit}
 use Rattle.step.specs.Sample.{Ran}
+use Rattle.step.proofs.Settles.{not-yet}
 use Rattle.voice.specs.Called.{Rests, Called, On}
 use Rattle.voice.proofs.Called.{voice-by, fit-as, called, called-on}
 
 -- ---- in the rule's terms
-module _ (v : Voice) (t : Rule.Tuning) where
-  announced-now : v .Na ≡ 0 → announced v t ≡ tuned v t (rest t) none
+module _ (v : Voice) (w : Rule.Waiting) where
+  settled-now : commits (w .kind) (w .taken) (v .Na) ≡ true
+      → settled v (some w) ≡ tuned v (w .tuning) (w .state) none
   unfolding settled
-  announced-now e = rw (eq-eqb 0 (v .Na) (sym e))
+  settled-now e = rw e
 
-  announced-later : (v .Na ≡ 0 → ⊥)
-      → announced v t
-      ≡ tuned v (v .tuning) (v .state) (some (record { tuning = t; taken = 0; state = rest t }))
+  settled-later : commits (w .kind) (w .taken) (v .Na) ≡ false
+      → settled v (some w) ≡ tuned v (v .tuning) (v .state) (some w)
   unfolding settled
-  announced-later f = rw (ne-eqb 0 (v .Na) (λ z. f (sym z)))
+  settled-later e = rw e
 
 module _ (v : Voice) (L d : ℕ) where
   pub count-refused : {n : ℕ} → n ≡ number v (instant L d) → (n ≡ 0 → ⊥) → 0 ≡ count v (instant L d)
@@ -51,34 +52,38 @@ module _ (v : Voice) (L d : ℕ) where
 
 -- ---- in the structs of the code
 module _ {h : Head} {L d : ℕ} {e : Filter} (k : Fit h) (r : Rests (h .filter .tuning .order) L d e) where
-  changes-now : {n : ℕ} → n ≡ number (voiceOf h) (announce L d) → n ≡ 0 → h .advance ≡ 0
-      → Called h (announce L d) (record { refusal = 0; head = withOf h e Idle })
+  -- prepared as the kind i is: in force at once, or waiting
+  pub changes-prepared : {n : ℕ} (i : Kind) → n ≡ number (voiceOf h) (prepare (kindOf i) L d) → n ≡ 0
+      → Called h (prepare (kindOf i) L d) (record { refusal = 0; head = settledOf h i e 0 })
   unfolding done
-  changes-now n z a =
-      let i = voice-by (withOf h e Idle) (ap tuningOf (r .tuning)) (r .state) in
-      let j = announced-now (voiceOf h) (to (voiceOf h) L d) a in
-      called h (announce L d) (withOf h e Idle) refl n z refl
-      (fit-as k (r .tuned) (k .loss) tt (k .pluck)) (λ q. i ∙ sym j)
-
-  changes-later : {n : ℕ} → n ≡ number (voiceOf h) (announce L d) → n ≡ 0 → (h .advance ≡ 0 → ⊥)
-      → Called h (announce L d) (record { refusal = 0; head = withOf h (h .filter) (Announced e 0) })
-  unfolding done
-  changes-later n z f =
-      let w : Preparing (h .filter .tuning .order) (h .advance) e 0
-      = record { tuned = r .tuned; same = ap (λ (t : Tuning). t .order) (r .tuning); fewer = omega arith } in
-      let j = announced-later (voiceOf h) (to (voiceOf h) L d) f in
-      called h (announce L d) (withOf h (h .filter) (Announced e 0)) refl n z refl
-      (fit-as k (k .filter) (k .loss) w (k .pluck)) (λ q. cc (r .tuning, r .state, j))
-
-  pub changes-announced : {n : ℕ} → n ≡ number (voiceOf h) (announce L d) → n ≡ 0
-      → Called h (announce L d) (record { refusal = 0; head = settledOf h e 0 })
-  changes-announced n z = go (eqb 0 (h .advance)) refl
+  changes-prepared i n z = go (commits (kindOf i) 0 (h .advance)) refl
     where
-      go : (b : Bool) → eqb 0 (h .advance) ≡ b
-          → Called h (announce L d)
-          (record { refusal = 0; head = cond b (withOf h e Idle) (withOf h (h .filter) (Announced e 0)) })
-      go true i = changes-now n z (sym (eqb-true 0 (h .advance) i))
-      go false i = changes-later n z (λ a. eqb-false 0 (h .advance) i (sym a))
+      c : Call
+      c = prepare (kindOf i) L d
+
+      w : Rule.Waiting
+      w = start (kindOf i) (to (voiceOf h) L d)
+
+      waits : commits (kindOf i) 0 (h .advance) ≡ false
+          → Preparing (h .filter .tuning .order) (h .advance) i e 0
+      waits b = record {
+        tuned = r .tuned;
+        same = ap (λ (t : Tuning). t .order) (r .tuning);
+        counted = omega arith;
+        early = not-yet (kindOf i) 0 (h .advance) (omega arith) b;
+      }
+
+      go : (b : Bool) → commits (kindOf i) 0 (h .advance) ≡ b
+          → Called h c
+          (record { refusal = 0; head = cond b (withOf h e Idle) (withOf h (h .filter) (Prepared i e 0)) })
+      go true b =
+          let i = voice-by (withOf h e Idle) (ap tuningOf (r .tuning)) (r .state) in
+          called h c (withOf h e Idle) refl n z refl (fit-as k (r .tuned) (k .loss) tt (k .pluck))
+          (λ q. i ∙ sym (settled-now (voiceOf h) w b))
+      go false b =
+          called h c (withOf h (h .filter) (Prepared i e 0)) refl n z refl
+          (fit-as k (k .filter) (k .loss) (waits b) (k .pluck))
+          (λ q. cc (r .tuning, r .state, settled-later (voiceOf h) w b))
 
   pub changes-instantly : {p : Filter} (l : List ℤ) → Within M (ring (h .at) l)
       → {n : ℕ} → n ≡ number (voiceOf h) (instant L d) → n ≡ 0

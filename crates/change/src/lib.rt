@@ -1,15 +1,16 @@
-// The changes of length and delay: announced, and instant.
+// The changes of length and delay: announced, asked for, and instant.
 // An eliminator starts at rest; an instant one is run over samples that the line still holds.
 ghost use mathlib.Core.Path.{_≡_};
 ghost use Prim.Native.Nat.{_≤_, _<_};
 ghost use Rattle.integer.specs.Rounding.{M};
 ghost use Rattle.allpass.specs.Bounds.{Within};
-ghost use Rattle.rule.specs.Calls.{announce as Announce, instant as Instant, count as Count};
+ghost use Rattle.rule.specs.Calls.{prepare as Prepare, announce as Announce, ask as Ask};
+ghost use Rattle.rule.specs.Calls.{instant as Instant, count as Count};
 ghost use Rattle.rule.specs.Calls.{window};
 ghost use Rattle.rule.specs.Tests.{waitings};
 ghost use Rattle.rule.specs.State.{back};
 ghost use Rattle.line.specs.Ring.{ring};
-ghost use Rattle.voice.specs.Struct.{waitingOf, voiceOf};
+ghost use Rattle.voice.specs.Struct.{kindOf, waitingOf, voiceOf};
 ghost use Rattle.voice.specs.Valid.{Tuned, Fit, Valid};
 ghost use Rattle.step.specs.Sample.{Ran};
 ghost use Rattle.voice.specs.Called.{Called, On};
@@ -19,11 +20,14 @@ use step::filter::moved;
 use voice::Answer;
 use voice::Filter;
 use voice::Head;
+use voice::Kind;
 use voice::Waiting;
 use voice::resting;
 use voice::settle;
 use voice::untuned;
 use voice::with;
+
+pub mod asked;
 
 // What an instant change returns: count is the number of samples that its eliminator was run over.
 pub struct Changed {
@@ -37,7 +41,7 @@ fn waiting(w: Waiting) -> u32
 {
     match w {
         Waiting::Idle => 0,
-        Waiting::Announced(_, _) => 1,
+        Waiting::Prepared(_, _, _) => 1,
     }
 }
 
@@ -51,10 +55,10 @@ fn refused(h: Head, length: u32, delay: u32) -> u32
     tested(code, refusal::CHANGE_WAITS, waiting(w), 0, 0)
 }
 
-// Announces a change: its eliminator starts at rest, and takes effect after as many samples as the advance.
-pub fn announce(head: Head, length: u32, delay: u32) -> Answer
+// Starts an eliminator at rest, whose change waits as this kind does.
+fn prepare(head: Head, kind: Kind, length: u32, delay: u32) -> Answer
     requires { ⌜ Fit head ⌝ }
-    ensures { λ r. ⌜ Called head (Announce length delay) r ⌝ }
+    ensures { λ r. ⌜ Called head (Prepare (kindOf kind) length delay) r ⌝ }
 {
     let code = refused(head, length, delay);
     if code != 0 {
@@ -66,8 +70,24 @@ pub fn announce(head: Head, length: u32, delay: u32) -> Answer
     let e = resting(head.filter.tuning.order, length, delay);
     Answer {
         refusal: 0,
-        head: settle(head, e, 0),
+        head: settle(head, kind, e, 0),
     }
+}
+
+// Announces a change, which takes effect after as many samples as the advance.
+pub fn announce(head: Head, length: u32, delay: u32) -> Answer
+    requires { ⌜ Fit head ⌝ }
+    ensures { λ r. ⌜ Called head (Announce length delay) r ⌝ }
+{
+    prepare(head, Kind::Announced, length, delay)
+}
+
+// Asks for a change, which takes effect when it is committed.
+pub fn ask(head: Head, length: u32, delay: u32) -> Answer
+    requires { ⌜ Fit head ⌝ }
+    ensures { λ r. ⌜ Called head (Ask length delay) r ⌝ }
+{
+    prepare(head, Kind::Asked, length, delay)
 }
 
 // The eliminator f after the last reads of the line, as many as the advance.

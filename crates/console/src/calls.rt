@@ -8,10 +8,13 @@ ghost use lib.ListN.{length};
 ghost use Rattle.voice.specs.Valid.{Fit, Valid};
 use request::Request;
 use request::kinds::ANNOUNCE;
+use request::kinds::ASK;
+use request::kinds::COMMIT;
 use request::kinds::INSTANT;
 use request::kinds::LOSS;
 use request::kinds::OPEN;
 use request::kinds::PLUCK;
+use request::kinds::WITHDRAW;
 use request::lists::samples;
 use voice::Answer;
 use voice::Head;
@@ -83,6 +86,26 @@ pub fn blocked(
     over(line, head, &input, r.count, output, places)
 }
 
+// An ask and what ends it; on a line that asks for none the voice is as it was.
+fn pedal(head: Head, l: Request) -> Answer
+    requires { ⌜ Fit head ⌝ }
+    ensures { λ r. ⌜ ((k : List ℤ) → Valid head k → Valid (r .head) k) ⌝ }
+{
+    if l.kind == ASK {
+        return change::ask(head, l.a, l.b);
+    }
+    if l.kind == COMMIT {
+        return change::asked::commit(head);
+    }
+    if l.kind == WITHDRAW {
+        return change::asked::withdraw(head);
+    }
+    Answer {
+        refusal: 0,
+        head: head,
+    }
+}
+
 // The calls that neither read nor write the line; on a line that asks for none the voice is as it was.
 fn set(head: Head, l: Request) -> Answer
     requires { ⌜ Fit head ⌝ }
@@ -97,10 +120,7 @@ fn set(head: Head, l: Request) -> Answer
     if l.kind == ANNOUNCE {
         return change::announce(head, l.a, l.b);
     }
-    Answer {
-        refusal: 0,
-        head: head,
-    }
+    pedal(head, l)
 }
 
 // An instant change.

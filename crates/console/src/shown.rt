@@ -9,6 +9,7 @@ use print::signed;
 use print::triple;
 use voice::Filter;
 use voice::Head;
+use voice::Kind;
 use voice::Pluck;
 use voice::Waiting;
 
@@ -18,9 +19,17 @@ fn held(buffer: &mut [u8; 4096], at: usize, s: State) -> usize {
     signed(buffer, a, Value { n: s.v2 })
 }
 
-// A change that waits: 1, its L and d, how many samples it has taken, and its state.
-fn change(buffer: &mut [u8; 4096], at: usize, e: Filter, taken: u32) -> usize {
-    let a = triple(buffer, at, 1, e.tuning.length, e.tuning.delay);
+// 1 for an announced change, 2 for one that was asked for.
+fn kind(k: Kind) -> u32 {
+    match k {
+        Kind::Announced => 1,
+        Kind::Asked => 2,
+    }
+}
+
+// A change that waits: its kind, its L and d, how many samples it has taken, and its state.
+fn change(buffer: &mut [u8; 4096], at: usize, k: Kind, e: Filter, taken: u32) -> usize {
+    let a = triple(buffer, at, kind(k), e.tuning.length, e.tuning.delay);
     let b = short(buffer, a, taken);
     held(buffer, b, e.state)
 }
@@ -32,7 +41,7 @@ fn waiting(buffer: &mut [u8; 4096], at: usize, w: Waiting) -> usize {
             let a = triple(buffer, at, 0, 0, 0);
             triple(buffer, a, 0, 0, 0)
         }
-        Waiting::Announced(e, taken) => change(buffer, at, e, taken),
+        Waiting::Prepared(k, e, taken) => change(buffer, at, k, e, taken),
     }
 }
 

@@ -11,11 +11,11 @@ use Rattle.thiran.specs.Formula.{factor, a}
 use Rattle.thiran.specs.Coefficients.{coefficient, coefficients}
 use Rattle.allpass.specs.Allpass.{inner, next, out}
 use Rattle.rule.specs.Voice.{Tuning, noise, spent, output, written, settled, stepped}
-use Rattle.rule.specs.Calls.{Call, announce, instant, number, opened, done}
+use Rattle.rule.specs.Calls.{Call, announce, instant, ask, commit, number, opened, done}
 use Rattle.rule.specs.History.{History, steps, read, step, call, after, new}
 use Rattle.rule.specs.State as State
 use Rattle.rule.specs.State.{fresh, puts}
-use Rattle.rule.specs.Click.{Change, announced, instantly, NoneBy}
+use Rattle.rule.specs.Click.{Change, announcing, instantly, committing, NoneBy}
 use Rattle.rule.proofs.Click.{click}
 use Rattle.rule.proofs.Ruling.{none-block}
 use Rattle.figures.specs.Instances.{o, list, Instance, loud, zeros, quiet, late, lately, t}
@@ -59,7 +59,7 @@ unfolding
     floor nearest R Q clip factor a coefficient coefficients inner next out noise spent output written settled
     stepped number opened done read step call new State.step State.sounds State.call State.put State.silence
 last =
-    given (quiet ∷ []) (announce 1 9159) (late ∷ []) t 2 4 5 (announced refl) (none-block 5 _ _ _, tt)
+    given (quiet ∷ []) (announce 1 9159) (late ∷ []) t 2 4 5 (announcing refl) (none-block 5 _ _ _, tt)
     (omega arith) (omega arith) refl refl
 
 pub instances : Instances
@@ -68,12 +68,15 @@ unfolding
     stepped number opened done read step call new State.step State.sounds State.call State.put State.silence
 instances = record {
   announced =
-      given (loud ∷ []) (announce 2 9159) (zeros ∷ instant 1 7000 ∷ zeros ∷ []) _ 2 5 5 (announced refl)
+      given (loud ∷ []) (announce 2 9159) (zeros ∷ instant 1 7000 ∷ zeros ∷ []) _ 2 5 5 (announcing refl)
       (none-block 5 _ _ _, (λ t a e k. after-5 (called k), (none-block 5 _ _ _, tt)))
       (omega arith) (omega arith) refl refl;
   instantly =
       given (loud ∷ announce 2 9159 ∷ zeros ∷ []) (instant 1 7000) (zeros ∷ []) _ 2 6 8 (instantly refl)
       (none-block 8 _ _ _, tt) (omega arith) (omega arith) refl refl;
+  committed =
+      given (loud ∷ ask 2 9159 ∷ zeros ∷ []) commit (zeros ∷ []) _ 3 6 6 (committing refl refl)
+      (none-block 6 _ _ _, tt) (omega arith) (omega arith) refl refl;
   same = last;
   line = refl;
   zero = silence;

@@ -22,6 +22,9 @@ rows = record {
   early = record { opening = refl; numbers = refl; counts = refl; outputs = refl; voice = refl; line = refl };
   reaches = record { opening = refl; numbers = refl; counts = refl; outputs = refl; voice = refl; line = refl };
   at-once = record { opening = refl; numbers = refl; counts = refl; outputs = refl; voice = refl; line = refl };
+  asked = record { opening = refl; numbers = refl; counts = refl; outputs = refl; voice = refl; line = refl };
+  asked-at-rest = record { opening = refl; numbers = refl; counts = refl; outputs = refl; voice = refl; line = refl };
+  withdrawn = record { opening = refl; numbers = refl; counts = refl; outputs = refl; voice = refl; line = refl };
   plucks = record { opening = refl; numbers = refl; counts = refl; outputs = refl; voice = refl; line = refl };
   halves1 = record { opening = refl; numbers = refl; counts = refl; outputs = refl; voice = refl; line = refl };
   halves2 = record { opening = refl; numbers = refl; counts = refl; outputs = refl; voice = refl; line = refl };

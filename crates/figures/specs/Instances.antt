@@ -1,12 +1,12 @@
--- Instances of demand 3 with all that it asks: an announced and an instant change of a line that sounds, and
--- its last sentence. proofs/Instances.antt has them from crate rule's theorem. Assumes nothing.
+-- Instances of demand 3 with all that it asks: an announced, an instant and a committed change of a line that
+-- sounds, and its last sentence. proofs/Instances.antt has them from crate rule's theorem. Assumes nothing.
 use mathlib.Core.Path.{_≡_}
 use mathlib.Core.List.{List, [], _∷_, _++_}
 use Prim.Native.Nat.{ℕ, _≤_, _<_}
 use lib.IntN.{ℤ, pos, negsuc}
 use lib.ListN.{getD}
 use Rattle.rule.specs.Voice.{Tuning}
-use Rattle.rule.specs.Calls.{Call, block, announce, instant, Opening}
+use Rattle.rule.specs.Calls.{Call, block, announce, instant, ask, commit, Opening}
 use Rattle.rule.specs.History.{read, steps, call, after, new}
 use Rattle.rule.specs.State.{fresh, puts}
 use Rattle.rule.specs.Click.{Change, NoneBy, Figure}
@@ -59,6 +59,10 @@ pub record Instances : Type 0 where
   pub instantly :
       Instance (loud ∷ announce 2 9159 ∷ zeros ∷ []) (instant 1 7000) (zeros ∷ [])
       (record { N = 2; L = 1; d = 7000 }) 2 6 8 (negsuc 1084744) (negsuc 1105081)
+  -- L3: asked before step 3 and committed before step 6, when its eliminator has taken 3 samples
+  pub committed :
+      Instance (loud ∷ ask 2 9159 ∷ zeros ∷ []) commit (zeros ∷ [])
+      (record { N = 2; L = 2; d = 9159 }) 3 6 6 (pos 197680) (pos 198125)
   -- "It does not differ at all if everything the new filter read before the second copy began is zero"
   pub same : Instance (quiet ∷ []) (announce 1 9159) (late ∷ []) t 2 4 5 (pos 4886) (pos 4886)
   pub line : after o lately .s ≡ pos 0 ∷ pos 0 ∷ pos 5000 ∷ pos 7 ∷ negsuc 326 ∷ pos 1910 ∷ []

@@ -7,8 +7,9 @@ use Prim.Native.Nat.{ℕ}
 use lib.IntN.{ℤ, pos, negsuc}
 use lib.ListN.{length, take}
 use Rattle.refusal.specs.Limits.{refusal}
-use Rattle.rule.specs.Voice.{Voice}
-use Rattle.rule.specs.Calls.{Call, block, loss, pluck, announce, instant, Opening, openLimits}
+use Rattle.rule.specs.Voice.{announced, asked, Voice}
+use Rattle.rule.specs.Calls.{Call, block, loss, pluck, announce, instant, ask, commit, withdraw}
+use Rattle.rule.specs.Calls.{Opening, openLimits}
 use Rattle.rule.specs.State as State
 use Rattle.rule.specs.State.{fresh, from, puts}
 
@@ -127,6 +128,7 @@ pub record Rows : Type 0 where
           state = negsuc 69708 ∷ pos 62828 ∷ [];
           last = negsuc 152370;
           waiting = some (record {
+            kind = announced;
             tuning = record { N = 2; L = 3; d = 10240 };
             taken = 2;
             state = negsuc 248661 ∷ negsuc 294825 ∷ [];
@@ -163,6 +165,7 @@ pub record Rows : Type 0 where
           state = negsuc 2115020 ∷ [];
           last = negsuc 1297490;
           waiting = some (record {
+            kind = announced;
             tuning = record { N = 1; L = 3; d = 5555 };
             taken = 2;
             state = negsuc 2419087 ∷ [];
@@ -234,6 +237,138 @@ pub record Rows : Type 0 where
         line =
             negsuc 6 ∷ pos 0 ∷ pos 0 ∷ negsuc 84759 ∷ pos 17342 ∷ pos 1337809 ∷ pos 1629450
             ∷ pos 263921 ∷ negsuc 210828 ∷ pos 2840701 ∷ negsuc 1976188 ∷ pos 1000000 ∷ pos 0 ∷ [];
+      })
+  -- order 2, Na 2: asks with refusals 2, 3 and 6, and a change while one waits; commits with
+  -- nothing asked, too early, and four samples late; one waits at last, past Na
+  pub asked :
+      Row (record { N = 2; L = 3; d = 7075; G = 60000; Na = 2 })
+      (block (pos 1000000 ∷ negsuc 1999999 ∷ pos 500000 ∷ []) 3
+      ∷ commit
+      ∷ withdraw
+      ∷ ask 0 6144
+      ∷ ask 2 10241
+      ∷ ask 2 9159
+      ∷ ask 4 7000
+      ∷ announce 4 7000
+      ∷ instant 0 7000
+      ∷ commit
+      ∷ block (pos 0 ∷ []) 1
+      ∷ commit
+      ∷ block (pos 0 ∷ pos 0 ∷ pos 7 ∷ pos 0 ∷ pos 0 ∷ []) 5
+      ∷ commit
+      ∷ commit
+      ∷ block (pos 0 ∷ pos 0 ∷ []) 2
+      ∷ ask 1 6145
+      ∷ block (pos 0 ∷ negsuc 8 ∷ pos 0 ∷ []) 3
+      ∷ [])
+      (record {
+        opening = 0;
+        numbers = 0 ∷ 21 ∷ 21 ∷ 2 ∷ 3 ∷ 0 ∷ 6 ∷ 6 ∷ 2 ∷ 20 ∷ 0 ∷ 20 ∷ 0 ∷ 0 ∷ 21 ∷ 0 ∷ 0 ∷ 0 ∷ [];
+        counts = 0 ∷ 0 ∷ 0 ∷ 0 ∷ 0 ∷ 0 ∷ 0 ∷ 0 ∷ 0 ∷ 0 ∷ 0 ∷ 0 ∷ 0 ∷ 0 ∷ 0 ∷ 0 ∷ 0 ∷ 0 ∷ [];
+        outputs =
+            pos 0 ∷ pos 0 ∷ pos 0 ∷ negsuc 19515 ∷ pos 242917 ∷ pos 541319 ∷ negsuc 2003347
+            ∷ pos 907415 ∷ negsuc 216052 ∷ pos 450539 ∷ negsuc 524429 ∷ negsuc 631675 ∷ pos 219097
+            ∷ pos 146422 ∷ [];
+        voice = record {
+          tuning = record { N = 2; L = 2; d = 9159 };
+          G = 60000;
+          Na = 2;
+          state = negsuc 534909 ∷ negsuc 16300 ∷ [];
+          last = pos 146422;
+          waiting = some (record {
+            kind = asked;
+            tuning = record { N = 2; L = 1; d = 6145 };
+            taken = 2;
+            state = pos 16320 ∷ negsuc 515700 ∷ [];
+          });
+          pluck = record { amplitude = 0; left = 0; noise = 0 };
+        };
+        line =
+            pos 167321 ∷ negsuc 188872 ∷ negsuc 529222 ∷ negsuc 33824 ∷ pos 107339 ∷ pos 316480
+            ∷ negsuc 501677 ∷ negsuc 669256 ∷ pos 358995 ∷ pos 102265 ∷ negsuc 8933 ∷ pos 500000
+            ∷ negsuc 1999999 ∷ pos 1000000 ∷ pos 0 ∷ [];
+      })
+  -- order 1, Na 0: an ask waits, and is committed at once, from rest, or late; an announced
+  -- change takes effect at once and leaves nothing to commit
+  pub asked-at-rest :
+      Row (record { N = 1; L = 2; d = 5000; G = 65535; Na = 0 })
+      (block (pos 3000000 ∷ negsuc 3999999 ∷ pos 70000 ∷ []) 3
+      ∷ ask 1 6144
+      ∷ commit
+      ∷ block (pos 0 ∷ pos 0 ∷ []) 2
+      ∷ ask 3 2049
+      ∷ block (pos 0 ∷ pos 0 ∷ pos 0 ∷ []) 3
+      ∷ announce 1 4096
+      ∷ commit
+      ∷ withdraw
+      ∷ block (pos 0 ∷ pos 0 ∷ []) 2
+      ∷ announce 2 3000
+      ∷ commit
+      ∷ block (pos 0 ∷ pos 0 ∷ []) 2
+      ∷ [])
+      (record {
+        opening = 0;
+        numbers = 0 ∷ 0 ∷ 0 ∷ 0 ∷ 0 ∷ 0 ∷ 6 ∷ 0 ∷ 21 ∷ 0 ∷ 0 ∷ 21 ∷ 0 ∷ [];
+        counts = 0 ∷ 0 ∷ 0 ∷ 0 ∷ 0 ∷ 0 ∷ 0 ∷ 0 ∷ 0 ∷ 0 ∷ 0 ∷ 0 ∷ 0 ∷ [];
+        outputs =
+            pos 0 ∷ pos 0 ∷ negsuc 298140 ∷ pos 15813 ∷ negsuc 47672 ∷ negsuc 147509 ∷ negsuc 25913
+            ∷ negsuc 85430 ∷ negsuc 12665 ∷ negsuc 122255 ∷ negsuc 7574 ∷ negsuc 58296 ∷ [];
+        voice = record {
+          tuning = record { N = 1; L = 2; d = 3000 };
+          G = 65535;
+          Na = 0;
+          state = negsuc 59884 ∷ [];
+          last = negsuc 58296;
+          waiting = none;
+          pluck = record { amplitude = 0; left = 0; noise = 0 };
+        };
+        line =
+            negsuc 32934 ∷ negsuc 64914 ∷ negsuc 67459 ∷ negsuc 49047 ∷ negsuc 55671 ∷ negsuc 86710
+            ∷ negsuc 97589 ∷ negsuc 15929 ∷ negsuc 141161 ∷ negsuc 79067 ∷ negsuc 3999999
+            ∷ pos 3000000 ∷ pos 0 ∷ [];
+      })
+  -- order 1, Na 2: an ask is withdrawn, early and late, and leaves the voice as if it had not
+  -- been; an announced change is nothing asked, neither to commit nor to withdraw
+  pub withdrawn :
+      Row (record { N = 1; L = 3; d = 2979; G = 62000; Na = 2 })
+      (block (pos 2000000 ∷ negsuc 999999 ∷ pos 30000 ∷ []) 3
+      ∷ ask 1 6000
+      ∷ block (pos 0 ∷ []) 1
+      ∷ withdraw
+      ∷ withdraw
+      ∷ ask 2 2049
+      ∷ block (pos 0 ∷ pos 0 ∷ pos 0 ∷ []) 3
+      ∷ withdraw
+      ∷ block (pos 0 ∷ []) 1
+      ∷ announce 2 5555
+      ∷ commit
+      ∷ withdraw
+      ∷ block (pos 0 ∷ []) 1
+      ∷ commit
+      ∷ block (pos 0 ∷ pos 0 ∷ []) 2
+      ∷ commit
+      ∷ block (pos 0 ∷ []) 1
+      ∷ [])
+      (record {
+        opening = 0;
+        numbers = 0 ∷ 0 ∷ 0 ∷ 0 ∷ 21 ∷ 0 ∷ 0 ∷ 0 ∷ 0 ∷ 0 ∷ 21 ∷ 21 ∷ 0 ∷ 21 ∷ 0 ∷ 21 ∷ 0 ∷ [];
+        counts = 0 ∷ 0 ∷ 0 ∷ 0 ∷ 0 ∷ 0 ∷ 0 ∷ 0 ∷ 0 ∷ 0 ∷ 0 ∷ 0 ∷ 0 ∷ 0 ∷ 0 ∷ 0 ∷ 0 ∷ [];
+        outputs =
+            pos 0 ∷ pos 0 ∷ pos 0 ∷ pos 315765 ∷ pos 1792263 ∷ negsuc 1278229 ∷ pos 255393
+            ∷ pos 266473 ∷ pos 993462 ∷ pos 9911 ∷ pos 79652 ∷ pos 536271 ∷ [];
+        voice = record {
+          tuning = record { N = 1; L = 2; d = 5555 };
+          G = 62000;
+          Na = 2;
+          state = pos 568681 ∷ [];
+          last = pos 536271;
+          waiting = none;
+          pluck = record { amplitude = 0; left = 0; noise = 0 };
+        };
+        line =
+            pos 291345 ∷ pos 42365 ∷ pos 474618 ∷ pos 595978 ∷ pos 246854 ∷ negsuc 483824
+            ∷ pos 243149 ∷ pos 997145 ∷ pos 149364 ∷ pos 30000 ∷ negsuc 999999 ∷ pos 2000000
+            ∷ pos 0 ∷ [];
       })
   -- refusals 7 and 8; plucks replaced while they sound, one that runs out, one that is left
   pub plucks :

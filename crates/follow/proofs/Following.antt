@@ -16,7 +16,8 @@ use Rattle.voice.specs.Valid.{Valid}
 use Rattle.voice.specs.Called.{On}
 use Rattle.follow.specs.Follow.{stands, lengthTo, delayTo, change, result, then}
 use Rattle.follow.specs.Does.{Does}
-use Rattle.follow.proofs.Sequence.{from-append, result-past, result-one, then-past, then-stops}
+use Rattle.rule.proofs.Puts.{from-append}
+use Rattle.follow.proofs.Sequence.{result-past, result-one, then-past, then-stops}
 
 pub does-none : {h : Head} {l : List ℤ} → Valid h l → Does h l [] (record { refusal = 0; head = h }) l
 does-none g = record { number = refl; state = refl; valid = g }

@@ -10,16 +10,6 @@ use Rattle.rule.specs.Calls.{Call, number}
 use Rattle.rule.specs.State.{State, call, put, from, puts}
 use Rattle.follow.specs.Follow.{result, then}
 
-pub from-append : (v : State) (cs ds : List Call) → from v (cs ++ ds) ≡ from (from v cs) ds
-from-append v [] ds = refl
-from-append v (c ∷ cs) ds = from-append (call v c) cs ds
-
-pub puts-append : (v : State) (cs ds : List Call) → puts v (cs ++ ds) ≡ puts v cs ++ puts (from v cs) ds
-puts-append v [] ds = refl
-puts-append v (c ∷ cs) ds =
-    ap (λ (ys : List ℤ). put v c ++ ys) (puts-append (call v c) cs ds)
-    ∙ sym (append-assoc (put v c) (puts (call v c) cs) (puts (from (call v c) cs) ds))
-
 -- ---- the number that ends them
 pub result-past : (v : State) (cs ds : List Call) → result v cs ≡ 0 → result v (cs ++ ds)
     ≡ result (from v cs) ds

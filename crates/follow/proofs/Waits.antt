@@ -23,7 +23,8 @@ use Rattle.follow.specs.Follow.{value, stands, absent, waitCalls}
 use Rattle.follow.specs.Follow.{lossCalls, change, changeCalls, pluckCalls}
 use Rattle.follow.specs.Follow.{lengthTo, delayTo, result, then, actCalls, recordCalls}
 use Rattle.follow.specs.Does.{Does}
-use Rattle.follow.proofs.Sequence.{puts-append, result-one, then-past}
+use Rattle.rule.proofs.Puts.{puts-append}
+use Rattle.follow.proofs.Sequence.{result-one, then-past}
 
 -- ---- calls without steps
 pub data Still : List Call → Type 0 where

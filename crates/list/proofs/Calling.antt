@@ -5,28 +5,45 @@ use mathlib.Core.Bool.{Bool, true, false, cond}
 use mathlib.Core.List.{List, [], _++_}
 use Prim.Native.Nat.{ℕ, zero, suc, _≤_, _<_}
 use native.Mathlib.Omega.{arith}
+use borrow.Author.Tests.{ne-eqb}
 use lib.Dec.{eqb}
 use lib.IntN.{ℤ}
 use lib.ListN.{length, take, drop, take-append-drop}
-use Rattle.rule.specs.Calls.{Call, inputs, number}
+use Rattle.rule.specs.Calls.{Call, commit, withdraw, inputs, number}
 use Rattle.rule.specs.State.{State, told, blockOut, put}
 use Rattle.rule.proofs.Puts.{put-none}
 use Rattle.voice.specs.declared.Head.{Head}
 use Rattle.voice.specs.Struct.{stateOf, voiceOf}
 use Rattle.voice.specs.Called.{lent}
-use Rattle.list.specs.Words.{called}
+use Rattle.list.specs.Words.{called, last-kind}
 use Rattle.samples.specs.Samples.{over}
 
 -- a call of another kind than 0 makes no step
-pub still : (kind a b c : ℕ) (xs : List ℤ) → 0 < kind → kind ≤ 4 → inputs (called kind a b c xs) ≡ []
+pub still : (kind a b c : ℕ) (xs : List ℤ) → 0 < kind → kind ≤ last-kind → inputs (called kind a b c xs) ≡ []
 still zero a b c xs h k = absurd (omega arith)
 still (suc zero) a b c xs h k = refl
 still (suc (suc zero)) a b c xs h k = refl
 still (suc (suc (suc zero))) a b c xs h k = refl
 still (suc (suc (suc (suc zero)))) a b c xs h k = refl
-still (suc (suc (suc (suc (suc n))))) a b c xs h k = absurd (omega arith)
+still (suc (suc (suc (suc (suc zero))))) a b c xs h k = refl
+still (suc (suc (suc (suc (suc (suc zero)))))) a b c xs h k = refl
+still (suc (suc (suc (suc (suc (suc (suc zero))))))) a b c xs h k = refl
+still (suc (suc (suc (suc (suc (suc (suc (suc n)))))))) a b c xs h k = absurd (omega arith)
 
-pub over-still : (v : State) (kind a b c : ℕ) (xs before : List ℤ) → 0 < kind → kind ≤ 4
+-- from kind 6 on it ends an ask
+pub ending : (kind a b c : ℕ) (xs : List ℤ) → 5 < kind
+    → cond (eqb kind 6) commit withdraw ≡ called kind a b c xs
+ending kind a b c xs h =
+    rw (
+      ne-eqb kind 0 (λ e. omega arith),
+      ne-eqb kind 1 (λ e. omega arith),
+      ne-eqb kind 2 (λ e. omega arith),
+      ne-eqb kind 3 (λ e. omega arith),
+      ne-eqb kind 4 (λ e. omega arith),
+      ne-eqb kind 5 (λ e. omega arith),
+    )
+
+pub over-still : (v : State) (kind a b c : ℕ) (xs before : List ℤ) → 0 < kind → kind ≤ last-kind
     → before ≡ over (put v (called kind a b c xs)) before
 over-still v kind a b c xs before h k =
     sym (ap (λ (p : List ℤ). over p before) (put-none v (called kind a b c xs) (still kind a b c xs h k)))

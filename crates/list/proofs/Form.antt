@@ -11,7 +11,7 @@ use lib.Dec.{T, leb, ltb, eqb}
 use lib.IntN.{ℤ}
 use lib.ListN.{length, drop, getD, length-drop, drop-of-length-le}
 use lib.Seq.{drop-cons}
-use Rattle.list.specs.Words.{called, takes, lends, calls, fits, formed}
+use Rattle.list.specs.Words.{called, takes, lends, last-kind, calls, fits, formed}
 use Rattle.list.specs.declared.words.Item.{Item}
 
 -- ---- the next call
@@ -68,17 +68,17 @@ and-right true b e = e
 and-right false b e = absurd (subst T (sym e) tt)
 
 pub record Fits (kind taken lent inputs outputs numbers : ℕ) : Type 0 where
-  pub known : kind ≤ 4
+  pub known : kind ≤ last-kind
   pub input : taken ≤ inputs
   pub output : lent ≤ outputs
   pub place : 0 < numbers
 
 pub fits-are : (k t l i o n : ℕ) → fits k t l i o n ≡ true → Fits k t l i o n
 fits-are k t l i o n e =
-    let e1 = and-right (leb k 4) (leb t i && (leb l o && ltb 0 n)) e in
+    let e1 = and-right (leb k last-kind) (leb t i && (leb l o && ltb 0 n)) e in
     let e2 = and-right (leb t i) (leb l o && ltb 0 n) e1 in
     record {
-      known = leb-true k 4 (and-left (leb k 4) (leb t i && (leb l o && ltb 0 n)) e);
+      known = leb-true k last-kind (and-left (leb k last-kind) (leb t i && (leb l o && ltb 0 n)) e);
       input = leb-true t i (and-left (leb t i) (leb l o && ltb 0 n) e1);
       output = leb-true l o (and-left (leb l o) (ltb 0 n) e2);
       place = ltb-true 0 n (and-right (leb l o) (ltb 0 n) e2);
@@ -126,4 +126,4 @@ formed-more (k ∷ a ∷ b ∷ c ∷ ws) i o p n h e =
     let f = fits-are k t l i o n (and-left b d e) in
     let r = formed-more ws (i - t) (o - l) (p - l) (n - 1) (omega arith) (and-right b d e) in
     let g : l ≤ p = omega (arith, f .output) in
-    rw (le-leb k 4 (f .known), le-leb t i (f .input), le-leb l p g, lt-ltb 0 n (f .place)) r
+    rw (le-leb k last-kind (f .known), le-leb t i (f .input), le-leb l p g, lt-ltb 0 n (f .place)) r

@@ -14,7 +14,7 @@ use Rattle.rule.specs.Calls.{Call, block, number, inputs}
 use Rattle.rule.specs.State.{State, told, blockOut, put}
 use Rattle.rule.proofs.Refusals.{refuses}
 use Rattle.rule.proofs.Puts.{put-none, length-out}
-use Rattle.list.specs.Words.{called, lends}
+use Rattle.list.specs.Words.{called, lends, last-kind}
 use Rattle.list.proofs.Calling.{still}
 
 -- an accepted block's input and output are as long as each other
@@ -22,7 +22,7 @@ matched : (v : Voice) (xs : List ℤ) (n : ℕ) → number v (block xs n) ≡ 0 
 matched v xs n e = refuses .blocks v xs n .accepted .0 e .0
 
 -- the number 0, or another, that a call returns decides
-pub put-length : (v : State) (kind a b c : ℕ) (xs : List ℤ) → kind ≤ 4
+pub put-length : (v : State) (kind a b c : ℕ) (xs : List ℤ) → kind ≤ last-kind
     → length (put v (called kind a b c xs))
     ≡ cond (eqb (number (v .voice) (called kind a b c xs)) 0) (lends kind b) 0
 unfolding put

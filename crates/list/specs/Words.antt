@@ -6,16 +6,21 @@ use Prim.Native.Nat.{ℕ, _-_}
 use lib.Dec.{leb, ltb, eqb}
 use lib.IntN.{ℤ}
 use lib.ListN.{take, drop}
-use Rattle.rule.specs.Calls.{Call, block, loss, pluck, announce, instant}
+use Rattle.rule.specs.Calls.{Call, block, loss, pluck, announce, ask, instant, commit, withdraw}
 
 -- Kind 0 is a block that takes a samples from the input and lends an output of b; 1 a loss a; 2 a pluck of
--- amplitude a, count b and seed c; 3 an announced change and 4 an instant one, to length a and delay b.
--- Words that a kind does not use are not looked at.
+-- amplitude a, count b and seed c; 3 an announced change, 4 an instant one and 5 an ask, to length a and
+-- delay b; 6 a commit and 7 a withdrawal. Words that a kind does not use are not looked at.
 abbrev pub called : ℕ → ℕ → ℕ → ℕ → List ℤ → Call
 called kind a b c xs =
     cond (eqb kind 0) (block (take a xs) b)
     (cond (eqb kind 1) (loss a)
-    (cond (eqb kind 2) (pluck a b c) (cond (eqb kind 3) (announce a b) (instant a b))))
+    (cond (eqb kind 2) (pluck a b c)
+    (cond (eqb kind 3) (announce a b)
+    (cond (eqb kind 4) (instant a b) (cond (eqb kind 5) (ask a b) (cond (eqb kind 6) commit withdraw))))))
+
+abbrev pub last-kind : ℕ
+last-kind = 7
 
 -- how many samples a call takes from the input, and how long an output it lends
 abbrev pub takes : ℕ → ℕ → ℕ
@@ -32,10 +37,10 @@ calls (k ∷ a ∷ []) xs = []
 calls (k ∷ a ∷ b ∷ []) xs = []
 calls (k ∷ a ∷ b ∷ c ∷ ws) xs = called k a b c xs ∷ calls ws (drop (takes k a) xs)
 
--- a kind from 0 to 4, with enough input, output and places for numbers left
+-- a kind that there is, with enough input, output and places for numbers left
 abbrev pub fits : ℕ → ℕ → ℕ → ℕ → ℕ → ℕ → Bool
 fits kind taken lent inputs outputs numbers =
-    leb kind 4 && (leb taken inputs && (leb lent outputs && ltb 0 numbers))
+    leb kind last-kind && (leb taken inputs && (leb lent outputs && ltb 0 numbers))
 
 -- in this form: whole calls, each of which fits what is left
 unfoldable pub formed : List ℕ → ℕ → ℕ → ℕ → Bool

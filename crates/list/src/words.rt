@@ -18,6 +18,10 @@ pub struct Item {
     pub lends: usize,
 }
 
+// The kinds are 0 to 7: a block, a loss, a pluck, an announced and an instant change, an ask, a commit, a
+// withdrawal.
+pub const LAST_KIND: u32 = 7;
+
 // n where x is 0, else 0: what a kind takes or lends, since only kind 0 is a block, and what a call that
 // returned x put out.
 pub fn if_zero(x: u32, n: usize) -> usize
@@ -71,7 +75,7 @@ fn fits(
 ) -> bool
     ensures { λ r. ⌜ r ≡ Fits kind takes lends inputs outputs numbers ⌝ }
 {
-    if 4 < kind {
+    if LAST_KIND < kind {
         return false;
     }
     if inputs < takes {

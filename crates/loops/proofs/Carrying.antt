@@ -1,27 +1,26 @@
 -- What a sample makes of a head that a loop carries on: a step of the rule, and a head of the same form.
 -- Assumes nothing.
 use mathlib.Core.Path.{_≡_, refl, sym, ap, _∙_}
-use mathlib.Core.Bool.{Bool, true, false, cond, false≢true}
 use mathlib.Core.List.{List}
-use Prim.Native.Nat.{ℕ, _+_, _<_}
+use Prim.Native.Nat.{ℕ, suc, _<_, min}
 use native.Mathlib.Omega.{arith}
-use borrow.Author.Tests.{eq-eqb, ne-eqb}
-use lib.Dec.{eqb}
 use lib.IntN.{ℤ, pos}
-use store.Seg.{eqb→≡}
 use Rattle.integer.specs.declared.Value.{Value}
 use Rattle.thiran.specs.declared.formula.Coefficients.{Coefficients}
 use Rattle.thiran.specs.Coefficients.{coefficients}
 use Rattle.thiran.specs.Answers.{padded}
 use Rattle.allpass.specs.declared.State.{State}
 use Rattle.line.specs.Ring.{ring}
+use Rattle.rule.specs.Voice.{announced}
 use Rattle.rule.specs.State.{back}
+use Rattle.rule.proofs.Steps.{commits-not}
 use Rattle.voice.specs.declared.Tuning.{Tuning}
 use Rattle.voice.specs.declared.Filter.{Filter}
+use Rattle.voice.specs.declared.Kind.{Kind}
 use Rattle.voice.specs.declared.Waiting.{Waiting}
-use Rattle.voice.specs.declared.Waiting.the-variants.{Idle, Announced}
+use Rattle.voice.specs.declared.Waiting.the-variants.{Idle, Prepared}
 use Rattle.voice.specs.declared.Head.{Head}
-use Rattle.voice.specs.Struct.{withOf, settledOf}
+use Rattle.voice.specs.Struct.{kindOf, withOf, settledOf}
 use Rattle.voice.specs.Valid.{Tuned, Valid}
 use Rattle.step.specs.declared.feedback.Circulated.{Circulated}
 use Rattle.step.specs.Sample.{Moved, Settles, Circulates, Steps}
@@ -66,32 +65,37 @@ module _ (h : Head) {f : Filter} {y : Value} {at : ℕ} {l : List ℤ} {x : ℤ}
       steps v o c {g = pos 0} tt (settles-idle (heard-fit v o c))
 
   -- ---- with a change that waits
-  module _ {e n : Filter} {t : ℕ} (m : Moved e (back (ring at l) (e .tuning .length)) n)
-      (v : Valid (withOf (carriedOf h f y at) f (Announced e t)) l) where
-    pub led-steps : Steps (withOf (carriedOf h f y at) f (Announced e t)) l x
-        (record { y = r .y; head = settledOf (carriedOf h (r .filter) (r .y) (r .at)) n (t + 1) }) k
+  module _ {i : Kind} {e n : Filter} {t : ℕ} (m : Moved e (back (ring at l) (e .tuning .length)) n)
+      (v : Valid (withOf (carriedOf h f y at) f (Prepared i e t)) l) where
+    pub led-steps : Steps (withOf (carriedOf h f y at) f (Prepared i e t)) l x
+        (record {
+          y = r .y;
+          head = settledOf (carriedOf h (r .filter) (r .y) (r .at)) i n (min (suc t) (h .advance));
+        })
+        k
     led-steps =
         let o = sounds-none (v .fit .pluck) z in
         steps v o c {g = back (ring at l) (e .tuning .length)} refl
         (settles (heard-fit v o c) (heard-waiting v o c) m)
 
 -- ---- a change that waits
-pub due-later : (h : Head) (e : Filter) (k : ℕ) → k < h .advance
-    → settledOf h e k ≡ withOf h (h .filter) (Announced e k)
-due-later h e k i = rw (ne-eqb k (h .advance) (λ z. omega arith))
+pub due-later : (h : Head) (i : Kind) (e : Filter) (k : ℕ) → (kindOf i ≡ announced → k < h .advance)
+    → settledOf h i e k ≡ withOf h (h .filter) (Prepared i e k)
+due-later h i e k l = rw (commits-not (kindOf i) k (h .advance) l)
 
-pub due-self : {N : ℕ} {e : Filter} {t k : ℕ} (h : Head) → N ≡ h .filter .tuning .order → N ≡ e .tuning .order
-    → h .waiting ≡ Announced e t → k ≡ t → t < h .advance
-    → settledOf (carriedOf h (anewOf N (h .filter) (h .filter .state)) (h .last) (h .at))
+pub due-self : {N : ℕ} {i : Kind} {e : Filter} {t k : ℕ} (h : Head)
+    → N ≡ h .filter .tuning .order → N ≡ e .tuning .order
+    → h .waiting ≡ Prepared i e t → k ≡ t → (kindOf i ≡ announced → t < h .advance)
+    → settledOf (carriedOf h (anewOf N (h .filter) (h .filter .state)) (h .last) (h .at)) i
     (anewOf N e (e .state)) k ≡ h
-due-self {N} {e} {t} {k} h i j w z fewer =
+due-self {N} {i} {e} {t} {k} h p j w z early =
     let f = anewOf N (h .filter) (h .filter .state) in
-    let waits = ap (λ (n : ℕ). Announced (anewOf N e (e .state)) n) z
-    ∙ ap (λ (e : Filter). Announced e t) (anew-self e j) in
-    due-later (carriedOf h f (h .last) (h .at)) (anewOf N e (e .state)) k (omega arith)
-    ∙ ap (λ (f : Filter). withOf h f (Announced (anewOf N e (e .state)) k)) (anew-self (h .filter) i)
+    let waits = ap (λ (n : ℕ). Prepared i (anewOf N e (e .state)) n) z
+    ∙ ap (λ (e : Filter). Prepared i e t) (anew-self e j) in
+    due-later (carriedOf h f (h .last) (h .at)) i (anewOf N e (e .state)) k (λ a. omega (arith, early a))
+    ∙ ap (λ (f : Filter). withOf h f (Prepared i (anewOf N e (e .state)) k)) (anew-self (h .filter) p)
     ∙ ap (λ (x : Waiting). withOf h (h .filter) x) (waits ∙ sym w)
 
-pub due-as : (h : Head) (y : Value) (at : ℕ) {f g d e : Filter} {t u : ℕ} → f ≡ g → d ≡ e → t ≡ u
-    → settledOf (carriedOf h f y at) d t ≡ settledOf (carriedOf h g y at) e u
-due-as h y at p q r = cc (p, q, r)
+pub due-as : (h : Head) (y : Value) (at : ℕ) (i : Kind) {f g d e : Filter} {t u : ℕ} → f ≡ g → d ≡ e → t ≡ u
+    → settledOf (carriedOf h f y at) i d t ≡ settledOf (carriedOf h g y at) i e u
+due-as h y at i p q r = cc (p, q, r)

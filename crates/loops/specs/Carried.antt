@@ -1,11 +1,17 @@
 -- What is kept of a voice in a loop over its samples, as the heads that it makes.
 -- Definitions alone. Assumes nothing.
-use Prim.Native.Nat.{ℕ}
+use mathlib.Core.Path.{_≡_}
+use Prim.Native.Nat.{ℕ, _≤_}
 use Rattle.integer.specs.declared.Value.{Value}
 use Rattle.allpass.specs.declared.State.{State}
 use Rattle.voice.specs.declared.Filter.{Filter}
-use Rattle.voice.specs.declared.Waiting.the-variants.{Idle}
+use Rattle.rule.specs.Voice.{announced}
+use Rattle.voice.specs.declared.Kind.{Kind}
+use Rattle.voice.specs.declared.Kind.the-variants.{Announced}
+use Rattle.voice.specs.declared.Waiting.{Waiting}
+use Rattle.voice.specs.declared.Waiting.the-variants.{Idle, Prepared}
 use Rattle.voice.specs.declared.Head.{Head}
+use Rattle.voice.specs.Struct.{kindOf}
 
 -- f with another state, in an order that is its own
 abbrev pub anewOf : ℕ → Filter → State → Filter
@@ -26,3 +32,12 @@ carriedOf h f y at = record {
   pluck = h .pluck;
   at = at;
 }
+
+-- the kind of the change that waits, where one does
+abbrev pub kindIn : Waiting → Kind
+kindIn Idle = Announced
+kindIn (Prepared k e n) = k
+
+-- a change of this kind that has taken n samples has not taken effect before: an ask never does by itself
+abbrev pub Lasts : Kind → ℕ → ℕ → Type 0
+Lasts k n advance = kindOf k ≡ announced → n ≤ advance

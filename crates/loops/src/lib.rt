@@ -1,13 +1,14 @@
 // The loops over a block's samples while no pluck sounds: with nothing waiting, and with a change that waits.
 // The state is in locals, a loop is compiled for each order, and each sample is made by crate step.
 ghost use mathlib.Core.Path.{_≡_};
-ghost use Prim.Native.Nat.{_+_, _≤_};
+ghost use Prim.Native.Nat.{_+_, _≤_, min};
 ghost use lib.ListN.{length};
 ghost use Rattle.integer.specs.Rounding.{M};
 ghost use Rattle.samples.specs.Samples.{loudest};
-ghost use Rattle.voice.specs.declared.Waiting.the-variants.{Idle, Announced};
+ghost use Rattle.voice.specs.declared.Waiting.the-variants.{Idle, Prepared};
 ghost use Rattle.voice.specs.Struct.{stateOf, settledOf};
 ghost use Rattle.voice.specs.Valid.{Valid};
+ghost use Rattle.loops.specs.Carried.{kindIn, Lasts};
 ghost use Rattle.loops.specs.Rendered.{Rendered};
 use crate::carried::anew;
 use crate::carried::carried;
@@ -16,6 +17,7 @@ use step::feedback::circulate;
 use step::filter::moved;
 use voice::Filter;
 use voice::Head;
+use voice::Kind;
 use voice::settle;
 
 mod carried;
@@ -52,6 +54,7 @@ fn idle(line: &mut [i32; 2112], order: u32, h: Head, buffer: &mut [i32]) -> Head
 }
 
 // Renders the buffer while a change waits; its eliminator e, which took some samples, reads the line too.
+// An announced change does not take effect before the end.
 fn waiting(
     line: &mut [i32; 2112],
     order: u32,
@@ -61,13 +64,18 @@ fn waiting(
     buffer: &mut [i32],
 ) -> Beside
     requires { ⌜ Valid h (now line) × (loudest (now buffer) ≤ M)
-        × (taken + length (now buffer) ≤ h .advance) ⌝ }
-    requires { ⌜ (order ≡ h .filter .tuning .order) × (h .waiting ≡ Announced e taken)
+        × Lasts (kindIn (h .waiting)) (taken + length (now buffer)) (h .advance) ⌝ }
+    requires { ⌜ (order ≡ h .filter .tuning .order) × (h .waiting ≡ Prepared (kindIn (h .waiting)) e taken)
         × (h .pluck .left ≡ 0) ⌝ }
     ensures { λ r. ⌜ Rendered (now (buffer .entry)) (stateOf h (now (line .entry))) (now (buffer .exit))
-        (stateOf (settledOf (r .head) (r .next) (taken + length (now (buffer .entry)))) (now (line .exit)))
+        (stateOf
+        (settledOf (r .head) (kindIn (h .waiting)) (r .next)
+        (min (taken + length (now (buffer .entry))) (h .advance)))
+        (now (line .exit)))
         (length (now (buffer .entry))) ⌝ }
-    ensures { λ r. ⌜ Valid (settledOf (r .head) (r .next) (taken + length (now (buffer .entry))))
+    ensures { λ r. ⌜ Valid
+        (settledOf (r .head) (kindIn (h .waiting)) (r .next)
+        (min (taken + length (now (buffer .entry))) (h .advance)))
         (now (line .exit)) ⌝ }
 {
     let mut v = h.filter.state;
@@ -113,12 +121,17 @@ pub fn while_idle(line: &mut [i32; 2112], h: Head, buffer: &mut [i32]) -> Head
 // The same while a change waits, before it may be put in force.
 fn by_order(line: &mut [i32; 2112], h: Head, e: Filter, taken: u32, buffer: &mut [i32]) -> Beside
     requires { ⌜ Valid h (now line) × (loudest (now buffer) ≤ M)
-        × (taken + length (now buffer) ≤ h .advance) ⌝ }
-    requires { ⌜ (h .waiting ≡ Announced e taken) × (h .pluck .left ≡ 0) ⌝ }
+        × Lasts (kindIn (h .waiting)) (taken + length (now buffer)) (h .advance) ⌝ }
+    requires { ⌜ (h .waiting ≡ Prepared (kindIn (h .waiting)) e taken) × (h .pluck .left ≡ 0) ⌝ }
     ensures { λ r. ⌜ Rendered (now (buffer .entry)) (stateOf h (now (line .entry))) (now (buffer .exit))
-        (stateOf (settledOf (r .head) (r .next) (taken + length (now (buffer .entry)))) (now (line .exit)))
+        (stateOf
+        (settledOf (r .head) (kindIn (h .waiting)) (r .next)
+        (min (taken + length (now (buffer .entry))) (h .advance)))
+        (now (line .exit)))
         (length (now (buffer .entry))) ⌝ }
-    ensures { λ r. ⌜ Valid (settledOf (r .head) (r .next) (taken + length (now (buffer .entry))))
+    ensures { λ r. ⌜ Valid
+        (settledOf (r .head) (kindIn (h .waiting)) (r .next)
+        (min (taken + length (now (buffer .entry))) (h .advance)))
         (now (line .exit)) ⌝ }
 {
     if h.filter.tuning.order == 1 {
@@ -127,17 +140,29 @@ fn by_order(line: &mut [i32; 2112], h: Head, e: Filter, taken: u32, buffer: &mut
     waiting(line, 2, h, e, taken, buffer)
 }
 
-// Renders the buffer while a change waits, which may take effect at its end.
+// So many samples more, counted up to the advance.
+fn counted(taken: u32, more: usize, advance: u32) -> u32
+    requires { ⌜ taken ≤ advance ⌝ }
+    ensures { λ r. ⌜ r ≡ min (taken + more) advance ⌝ }
+{
+    if more < (advance - taken) as usize {
+        return taken + (more as u32);
+    }
+    advance
+}
+
+// Renders the buffer while a change waits; an announced one may take effect at its end.
 pub fn while_waiting(
     line: &mut [i32; 2112],
     h: Head,
+    kind: Kind,
     e: Filter,
     taken: u32,
     buffer: &mut [i32],
 ) -> Head
     requires { ⌜ Valid h (now line) × (loudest (now buffer) ≤ M)
-        × (taken + length (now buffer) ≤ h .advance) ⌝ }
-    requires { ⌜ (h .waiting ≡ Announced e taken) × (h .pluck .left ≡ 0) ⌝ }
+        × Lasts kind (taken + length (now buffer)) (h .advance) ⌝ }
+    requires { ⌜ (h .waiting ≡ Prepared kind e taken) × (h .pluck .left ≡ 0) ⌝ }
     ensures { λ r. ⌜ Rendered (now (buffer .entry)) (stateOf h (now (line .entry))) (now (buffer .exit))
         (stateOf r (now (line .exit))) (length (now (buffer .entry))) ⌝ }
     ensures { λ r. ⌜ Valid r (now (line .exit)) ⌝ }
@@ -146,5 +171,5 @@ pub fn while_waiting(
     let p = by_order(line, h, e, taken, buffer);
     let head = p.head;
     let next = p.next;
-    settle(head, next, taken + (n as u32))
+    settle(head, kind, next, counted(taken, n, h.advance))
 }

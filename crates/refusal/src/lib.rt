@@ -41,6 +41,11 @@ pub const RECORDING_RATE: u32 = 17;
 pub const ROOM: u32 = 18;
 
 pub const FILE_FORM: u32 = 19;
+
+pub const TOO_EARLY: u32 = 20;
+
+pub const NOTHING_ASKED: u32 = 21;
+
 // The greatest order, length, loss, advance, amplitude and count that are let pass.
 pub const ORDERS: u32 = 2;
 

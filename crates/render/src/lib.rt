@@ -6,13 +6,15 @@ ghost use lib.ListN.{length};
 ghost use Rattle.integer.specs.Rounding.{M};
 ghost use Rattle.samples.specs.Samples.{loudest};
 ghost use Rattle.rule.specs.State.{blockAfter, blockOut};
-ghost use Rattle.voice.specs.Struct.{stateOf};
+ghost use Rattle.rule.specs.Voice.{announced};
+ghost use Rattle.voice.specs.Struct.{kindOf, stateOf};
 ghost use Rattle.voice.specs.Valid.{Valid};
 ghost use Rattle.loops.specs.Rendered.{Rendered};
 use loops::while_idle;
 use loops::while_waiting;
 use step::step;
 use voice::Head;
+use voice::Kind;
 use voice::Waiting;
 
 // A voice once the first samples of a buffer are rendered, so many as are done.
@@ -55,6 +57,17 @@ fn smaller(a: usize, b: usize) -> usize
     if a < b { a } else { b }
 }
 
+// How many of n samples a change of this kind waits for, if an announced one waits for so many more.
+fn reach(kind: Kind, n: usize, left: usize) -> usize
+    ensures { λ r. ⌜ (r ≤ n) × (kindOf kind ≡ announced → r ≤ left)
+        × (0 < n → (kindOf kind ≡ announced → 0 < left) → 0 < r) ⌝ }
+{
+    match kind {
+        Kind::Announced => smaller(n, left),
+        Kind::Asked => n,
+    }
+}
+
 // Renders as many samples as one loop can, one at least.
 fn stretch(line: &mut [i32; 2112], h: Head, buffer: &mut [i32]) -> Progress
     requires { ⌜ Valid h (now line) × (loudest (now buffer) ≤ M) ⌝ }
@@ -76,9 +89,9 @@ fn stretch(line: &mut [i32; 2112], h: Head, buffer: &mut [i32]) -> Progress
                 done: n,
             }
         }
-        Waiting::Announced(e, taken) => {
-            let done = smaller(n, (h.advance - taken) as usize);
-            let head = while_waiting(line, h, e, taken, &mut buffer[..done]);
+        Waiting::Prepared(kind, e, taken) => {
+            let done = reach(kind, n, (h.advance - taken) as usize);
+            let head = while_waiting(line, h, kind, e, taken, &mut buffer[..done]);
             Progress {
                 head: head,
                 done: done,

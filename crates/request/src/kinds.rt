@@ -1,5 +1,5 @@
 // The kinds of lines: their names, how many numbers follow each, and the largest counts of samples.
-// 0 is a line with no word, and 17 one that is none of the others.
+// 0 is a line with no word, and 20 one that is none of the others.
 ghost use Prim.Native.Nat.{_≤_};
 use crate::lists::Taken;
 use words::word;
@@ -16,33 +16,39 @@ pub const ANNOUNCE: u32 = 4;
 
 pub const INSTANT: u32 = 5;
 
-pub const BLOCK: u32 = 6;
+pub const ASK: u32 = 6;
 
-pub const COEFFICIENTS: u32 = 7;
+pub const COMMIT: u32 = 7;
 
-pub const LENGTH: u32 = 8;
+pub const WITHDRAW: u32 = 8;
 
-pub const NOTE: u32 = 9;
+pub const BLOCK: u32 = 9;
 
-pub const DRAW: u32 = 10;
+pub const COEFFICIENTS: u32 = 10;
 
-pub const RECORD: u32 = 11;
+pub const LENGTH: u32 = 11;
 
-pub const RUN: u32 = 12;
+pub const NOTE: u32 = 12;
 
-pub const STATE: u32 = 13;
+pub const DRAW: u32 = 13;
 
-pub const LINE: u32 = 14;
+pub const RECORD: u32 = 14;
 
-pub const WAVWRITE: u32 = 15;
+pub const RUN: u32 = 15;
 
-pub const WAVREAD: u32 = 16;
+pub const STATE: u32 = 16;
 
-pub const ERROR: u32 = 17;
+pub const LINE: u32 = 17;
 
-// The place of a word in a list of words, from 1; 17 where it is none of the first 16.
+pub const WAVWRITE: u32 = 18;
+
+pub const WAVREAD: u32 = 19;
+
+pub const ERROR: u32 = 20;
+
+// The place of a word in a list of words, from 1; 20 where it is none of the first 19.
 fn place(w: &[u8], names: &[u8]) -> u32
-    ensures { λ r. ⌜ r ≤ 17 ⌝ }
+    ensures { λ r. ⌜ r ≤ 20 ⌝ }
 {
     let mut t = names;
     let mut k = 1;
@@ -61,11 +67,11 @@ fn place(w: &[u8], names: &[u8]) -> u32
 
 // The kind of line that a word names.
 pub fn named(w: &[u8]) -> u32
-    ensures { λ r. ⌜ r ≤ 17 ⌝ }
+    ensures { λ r. ⌜ r ≤ 20 ⌝ }
 {
     place(
         w,
-        b"open loss pluck announce instant block coefficients length note draw record run state line wavwrite wavread",
+        b"open loss pluck announce instant ask commit withdraw block coefficients length note draw record run state line wavwrite wavread",
     )
 }
 
@@ -76,7 +82,7 @@ pub fn wanted(kind: u32) -> usize
     match kind {
         OPEN => 5,
         PLUCK | LENGTH | NOTE => 3,
-        ANNOUNCE | INSTANT | COEFFICIENTS | WAVWRITE => 2,
+        ANNOUNCE | INSTANT | ASK | COEFFICIENTS | WAVWRITE => 2,
         LOSS | BLOCK | DRAW | RUN | LINE | WAVREAD => 1,
         _ => 0,
     }

@@ -1,14 +1,14 @@
 -- What is known of a voice where a change is accepted.
 -- Assumes nothing.
-use mathlib.Core.Path.{_≡_, sym, _∙_}
+use mathlib.Core.Path.{_≡_, sym, ap, _∙_}
 use mathlib.Core.Option.{some}
 use Prim.Native.Nat.{ℕ}
 use Rattle.refusal.specs.Orders.{Takes}
-use Rattle.rule.specs.Voice.{Waiting, Voice}
+use Rattle.rule.specs.Voice.{announced, Waiting, Voice}
 use Rattle.rule.specs.Calls.{to}
 use Rattle.rule.specs.Valid.{Tunable, Valid}
-use Rattle.rule.specs.Refusals.{ChangeReturns}
-use Rattle.rule.proofs.Keeps.{none-some}
+use Rattle.rule.specs.Refusals.{ChangeReturns, Asked}
+use Rattle.rule.proofs.Keeps.{none-some, same-some, announced-asked}
 
 -- an accepted change's tuning is fit
 pub accepted-fit : {v : Voice} (L d : ℕ) {n : ℕ} → Valid v → ChangeReturns v L d n → n ≡ 0 → Tunable (to v L d)
@@ -23,3 +23,8 @@ accepted-fit {v} L d h r e =
 pub not-while : {v : Voice} {w : Waiting} (L d : ℕ) {n : ℕ} → ChangeReturns v L d n → n ≡ 0
     → v .waiting ≡ some w → ⊥
 not-while L d r e p = none-some (sym (r .accepted .0 e .1 .1) ∙ p)
+
+-- and an announced change is none that was asked for
+pub not-announced : {v : Voice} {w : Waiting} {P : ℕ → Type 0} → Asked v P → v .waiting ≡ some w
+    → w .kind ≡ announced → ⊥
+not-announced k p e = announced-asked e (ap (λ (u : Waiting). u .kind) (same-some (sym p ∙ k .held)) ∙ k .kind)

@@ -6,7 +6,8 @@ use Prim.Native.Nat.{ℕ, zero, suc, _+_, _≤_}
 use native.Mathlib.Omega.{arith}
 use lib.IntN.{ℤ}
 use Rattle.rule.specs.Voice.{Waiting, Voice, output, written, fedToo, settled, heard, stepped}
-use Rattle.rule.specs.Calls.{Call, block, loss, pluck, announce, instant, number, done, window}
+use Rattle.rule.specs.Calls.{Call, block, loss, pluck, prepare, instant, commit, withdraw}
+use Rattle.rule.specs.Calls.{number, done, window}
 use Rattle.rule.specs.Valid.{Valid}
 use Rattle.rule.proofs.Refusals.{refuses}
 use Rattle.rule.proofs.Accepted.{accepted-fit}
@@ -33,7 +34,7 @@ module _ (v : Voice) (r q : ℕ → ℤ) (g : Valid v) (e : Alike r q) where
   heard-alike : heard v r ≡ heard v q
   heard-alike = rw (read-alike, output-alike)
 
-  fed-alike : (o : Option Waiting) → v .waiting ≡ o → fedToo o r ≡ fedToo o q
+  fed-alike : (o : Option Waiting) → v .waiting ≡ o → fedToo (v .Na) o r ≡ fedToo (v .Na) o q
   fed-alike none p = refl
   fed-alike (some w) p =
       let f = g .waiting w p .fit in rw (e (w .tuning .L) (f .short) (omega (arith, f .long)))
@@ -41,7 +42,7 @@ module _ (v : Voice) (r q : ℕ → ℤ) (g : Valid v) (e : Alike r q) where
   pub stepped-alike : stepped v r ≡ stepped v q
   unfolding stepped
   stepped-alike =
-      ap (λ (u : Voice). settled u (fedToo (v .waiting) r)) heard-alike
+      ap (λ (u : Voice). settled u (fedToo (v .Na) (v .waiting) r)) heard-alike
       ∙ ap (λ (o : Option Waiting). settled (heard v q) o) (fed-alike (v .waiting) refl)
 
   pub done-alike : (c : Call) → number v c ≡ 0 → done v r c ≡ done v q c
@@ -49,7 +50,9 @@ module _ (v : Voice) (r q : ℕ → ℤ) (g : Valid v) (e : Alike r q) where
   done-alike (block xs n) z = refl
   done-alike (loss G) z = refl
   done-alike (pluck a n s) z = refl
-  done-alike (announce L d) z = refl
+  done-alike (prepare k L d) z = refl
+  done-alike commit z = refl
+  done-alike withdraw z = refl
   done-alike (instant L d) z =
       let f = accepted-fit L d g (refuses .instants v L d) z in
       rw (window-alike r q L (v .Na) e (omega (arith, g .advance, f .long)))

@@ -8,7 +8,8 @@ use native.Mathlib.Decide.{ℕ-discrete}
 use borrow.Author.Tests.{ne-eqb}
 use lib.IntN.{ℤ}
 use lib.ListN.{length}
-use Rattle.rule.specs.Calls.{Call, block, loss, pluck, announce, instant, number, done, inputs}
+use Rattle.rule.specs.Calls.{Call, block, loss, pluck, prepare, instant, commit, withdraw}
+use Rattle.rule.specs.Calls.{number, done, inputs}
 use Rattle.rule.specs.History.{History, steps, step, through, call}
 use Rattle.rule.specs.Keeps.{NoStep, Counts}
 use Rattle.rule.proofs.Walk.{call-accepted}
@@ -40,7 +41,9 @@ counts h = record {
   block-steps = λ xs n e. ap steps (runs h xs n e) ∙ through-steps xs h;
   loss-none = λ G. no-step h (loss G) refl;
   pluck-none = λ a n z. no-step h (pluck a n z) refl;
-  announce-none = λ L d. no-step h (announce L d) refl;
+  prepare-none = λ k L d. no-step h (prepare k L d) refl;
   instant-none = λ L d. no-step h (instant L d) refl;
+  commit-none = no-step h commit refl;
+  withdraw-none = no-step h withdraw refl;
   refused-none = refused h;
 }

@@ -14,7 +14,7 @@ use Rattle.rule.specs.Voice.{Tuning, noise, spent, output, written, sett
 use Rattle.rule.specs.Calls.{Opening, Call, block, announce, number, opened, done}
 use Rattle.rule.specs.History.{read, step, call, after, new}
 use Rattle.rule.specs.State.{fresh, puts}
-use Rattle.rule.specs.Click.{announced}
+use Rattle.rule.specs.Click.{announcing}
 use Rattle.rule.proofs.Click.{click}
 use Rattle.rule.proofs.Ruling.{none-block}
 
@@ -48,5 +48,5 @@ quiet (suc (suc i)) l = absurd (omega arith)
 pub exactly : getD (puts (fresh o) cs) 4 (pos 0) ≡ new t (after o cs .s) 4
 unfolding call step number opened done stepped settled
 exactly =
-    click o cs pre post (announce 1 9159) t 2 4 4 refl (announced refl) (none-block 4 _ _ _, tt)
+    click o cs pre post (announce 1 9159) t 2 4 4 refl (announcing refl) (none-block 4 _ _ _, tt)
     (omega arith) (omega arith) .same quiet

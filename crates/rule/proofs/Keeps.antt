@@ -10,8 +10,8 @@ use native.Mathlib.Decide.{ℕ-discrete}
 use borrow.Author.Tests.{eq-eqb, ne-eqb}
 use lib.Dec.{eqb}
 use lib.IntN.{ℤ}
-use Rattle.rule.specs.Voice.{Tuning, Waiting, Voice, rest, tuned, settled}
-use Rattle.rule.specs.Calls.{announce, instant, number, done, count, to}
+use Rattle.rule.specs.Voice.{Tuning, Kind, announced, asked, Waiting, Voice, tuned, commits, settled}
+use Rattle.rule.specs.Calls.{prepare, commit, instant, number, start, done, count, to}
 use Rattle.rule.specs.Keeps.{Retuned, Keeps}
 use Rattle.rule.proofs.Read.{length-window}
 
@@ -27,6 +27,11 @@ pub either-keeps : (b : Bool) (v : Voice) (t t′ : Tuning) (q q′ : List ℤ) 
 either-keeps true v t t′ q q′ o o′ = record { loss = refl; advance = refl; last = refl; pluck = refl }
 either-keeps false v t t′ q q′ o o′ = record { loss = refl; advance = refl; last = refl; pluck = refl }
 
+commit-keeps : (v : Voice) (r : ℕ → ℤ) (o : Option Waiting) → v .waiting ≡ o → Retuned v (done v r commit)
+unfolding done
+commit-keeps v r none p = rw p (record { loss = refl; advance = refl; last = refl; pluck = refl })
+commit-keeps v r (some w) p = rw p (record { loss = refl; advance = refl; last = refl; pluck = refl })
+
 pub keeps : (v : Voice) (r : ℕ → ℤ) → Keeps v r
 unfolding done count settled
 keeps v r = record {
@@ -38,21 +43,27 @@ keeps v r = record {
       (record { tuning = refl; state = refl; waiting = refl });
   announce-now =
       λ L d e. rw (eq-eqb 0 (v .Na) (sym e)) (record { tuning = refl; state = refl; waiting = refl });
-  announce-rest = λ L d. either-keeps (eqb 0 (v .Na)) v _ _ _ _ _ _;
+  ask-waits = λ L d. record { tuning = refl; state = refl; waiting = refl };
+  prepare-rest = λ k L d. either-keeps (commits k 0 (v .Na)) v _ _ _ _ _ _;
+  commit-now = λ w p. rw p (record { tuning = refl; state = refl; waiting = refl });
+  commit-rest = commit-keeps v r (v .waiting) refl;
+  withdraw-drops = record { tuning = refl; state = refl; waiting = refl };
+  withdraw-rest = record { loss = refl; advance = refl; last = refl; pluck = refl };
   instant-rest = λ L d. record { loss = refl; advance = refl; last = refl; pluck = refl };
   instant-now = λ L d. record { tuning = refl; state = refl; waiting = refl };
   counted = λ L d e. let i = eq-eqb (number v (instant L d)) 0 e in (rw (i, length-window r L (v .Na)), rw i);
 }
 
--- the eliminator of an announced change: what waits after it is that
-abbrev pub start : Tuning → Waiting
-start t = record { tuning = t; taken = 0; state = rest t }
-
-pub announced-waits : (v : Voice) (r : ℕ → ℤ) (L d : ℕ) {w : Waiting}
-    → done v r (announce L d) .waiting ≡ some w
-    → start (to v L d) ≡ w
-announced-waits v r L d {w} p = go (ℕ-discrete (v .Na) 0)
+-- what waits after an announced change or an ask is its eliminator at rest
+pub prepared-waits : (v : Voice) (r : ℕ → ℤ) (k : Kind) (L d : ℕ) {w : Waiting}
+    → done v r (prepare k L d) .waiting ≡ some w
+    → start k (to v L d) ≡ w
+prepared-waits v r asked L d p = same-some (sym (keeps v r .ask-waits L d .waiting) ∙ p)
+prepared-waits v r announced L d {w} p = go (ℕ-discrete (v .Na) 0)
   where
-    go : Dec (v .Na ≡ 0) → start (to v L d) ≡ w
+    go : Dec (v .Na ≡ 0) → start announced (to v L d) ≡ w
     go (yes e) = absurd (none-some (sym (keeps v r .announce-now L d e .waiting) ∙ p))
     go (no f) = same-some (sym (keeps v r .announce-waits L d (omega arith) .waiting) ∙ p)
+
+pub announced-asked : {k : Kind} → k ≡ announced → k ≡ asked → ⊥
+announced-asked e i = let z : _≡_ {A = ℕ} 0 1 = cc in omega arith

@@ -13,6 +13,7 @@ pub mod Nearness
 pub mod Walk
 pub mod Counts
 pub mod Sound
+pub mod Stands
 pub mod Course
 pub mod Place
 pub mod Line
@@ -23,6 +24,9 @@ pub mod Ruling
 pub mod Cover
 pub mod Literals
 pub mod Waits
+pub mod Pedal
+mod Twins
+pub mod Withdrawn
 pub mod Sample
 pub mod Plucks
 mod Instance

@@ -5,11 +5,12 @@ use mathlib.Core.Bool.{Bool, true, false, cond}
 use mathlib.Core.List.{List}
 use Prim.Native.Nat.{ℕ, _+_, _*_, _-_, _/_, _^_, _≤_, _<_}
 use native.Mathlib.Omega.{arith}
-use native.Mathlib.Nat.{le-trans, pow-le-pow-right, le-div-iff-mul-le}
+use native.Mathlib.Nat.{le-trans, pow-le-pow-right, le-div-iff-mul-le, div-add-mod'}
 use borrow.Author.Tests.{leb-true, leb-false}
 use lib.Dec.{leb}
 use Rattle.rule.specs.Calls.{Call, Opening}
 use Rattle.rule.specs.Click.{figure}
+use Rattle.rule.specs.Asked.{Tightens}
 use Rattle.rule.specs.Literals.{Differs, Literals}
 use Rattle.rule.proofs.Click.{click}
 
@@ -25,6 +26,11 @@ falls k K h = go (leb k 23) (leb K 23) refl refl
     go false true e i =
         omega (arith, pow-le-pow-right {n = 2} (omega arith) {i = 0} {j = 23 - K} (omega arith))
     go false false e i = omega arith
+
+pub tightens : Tightens
+tightens a b N n h =
+    falls (b / N) (a / N)
+    (le-div-iff-mul-le {k = N} {x = a / N} {y = b} n .1 (omega (arith, div-add-mod' a N)))
 
 module _ (o : Opening) (cs : List Call) where
   -- at k = K and later: K times N is reached by the advance and j samples
@@ -43,6 +49,8 @@ module _ (o : Opening) (cs : List Call) where
   literals = record {
     order-1-na-64 = from-there 1 64 0 64 (omega arith) (omega arith);
     order-2-na-64 = from-there 2 64 0 32 (omega arith) (omega arith);
+    order-1-after-100 = from-there 1 100 0 100 (omega arith) (omega arith);
+    order-2-after-47 = from-there 2 47 0 23 (omega arith) (omega arith);
     order-1-na-24 = from-there 1 24 0 24 (omega arith) (omega arith);
     order-1-na-23 = from-there 1 23 0 23 (omega arith) (omega arith);
     order-1-na-22 = from-there 1 22 0 22 (omega arith) (omega arith);

@@ -2,6 +2,7 @@
 -- Assumes nothing.
 use mathlib.Core.Path.{_≡_, sym, subst, _∙_}
 use mathlib.Core.List.{List, [], _∷_}
+use mathlib.Core.Option.{some}
 use Prim.Native.Nat.{ℕ, suc, _+_, _-_, _≤_, _<_}
 use native.Mathlib.Omega.{arith}
 use native.Mathlib.Decide.{decLt}
@@ -9,10 +10,10 @@ use lib.IntN.{ℤ, pos}
 use lib.ListN.{getD, List·getD-append}
 use lib.Seq.{getD-at}
 use Rattle.allpass.specs.Allpass.{out}
-use Rattle.rule.specs.Voice.{Tuning, A, output, written}
-use Rattle.rule.specs.Calls.{Call, announce, instant, number}
+use Rattle.rule.specs.Voice.{Tuning, announced, Waiting, A, output, written}
+use Rattle.rule.specs.Calls.{Call, announce, instant, commit, number}
 use Rattle.rule.specs.History.{History, read, steps, ago, step, told, call, from, new}
-use Rattle.rule.specs.Click.{Change, announced, instantly, NoneBy, Figure}
+use Rattle.rule.specs.Click.{Change, announcing, instantly, committing, NoneBy, Figure}
 use Rattle.rule.specs.Valid.{Tunable}
 use Rattle.rule.proofs.Refusals.{refuses}
 use Rattle.rule.proofs.Read.{read-append}
@@ -23,7 +24,7 @@ use Rattle.rule.proofs.Walk.{call-keeps, call-accepted}
 use Rattle.rule.proofs.Steps.{step-steps}
 use Rattle.rule.proofs.Sound.{Ran, Sound, step-sound, told-sound}
 use Rattle.rule.proofs.Course.{Course, coming, ruling, course-step, Late, course-told}
-use Rattle.rule.proofs.Course.{begins-instant, begins-announced}
+use Rattle.rule.proofs.Course.{begins-instant, begins-announced, begins-committed}
 
 module _ (t : Tuning) (f : Tunable t) (a e m : ℕ) (due : e ≤ m) where
   -- step m is ahead, or lies behind, and then what is claimed of it holds
@@ -84,10 +85,17 @@ module _ (t : Tuning) (f : Tunable t) (a e m : ℕ) (due : e ≤ m) where
   place-step : (h : History) (x : ℤ) → Sound h → Place h → Place (step h x)
   place-step h x g p = go (step-steps h x) (decLt (steps h) m) p
     where
+      -- what waits takes effect by step m, and so after this step
+      waits : (w : Waiting) → h .voice .waiting ≡ some w → w .kind ≡ announced → w .tuning ≡ t
+          → h .voice .Na ≡ a → h .began + a ≡ e → (steps h < m → ⊥) → ⊥
+      waits w p κ q i b k =
+          let r = g .waiting w p in
+          omega (arith, r .since, r .taken, g .valid .waiting w p .early κ)
+
       go : steps (step h x) ≡ suc (steps h) → Dec (steps h < m) → Place h → Place (step h x)
       go n d (behind l p) = behind (omega arith) (stays h x g l p)
       go n (yes k) (ahead l c) = ahead (omega arith) (course-step t f a e m due h x g k c)
-      go n (no k) (ahead l (coming w p q i b d)) = absurd (omega arith)
+      go n (no k) (ahead l (coming w p κ q i b)) = absurd (waits w p κ q i b k)
       go n (no k) (ahead l (ruling q b r z)) =
           let i : steps h ≡ m = omega arith in
           behind (omega arith)
@@ -120,8 +128,8 @@ pub record Begun (h : History) (c : Call) (t : Tuning) (a e m : ℕ) (due : e �
 
 pub begins : (h : History) {c : Call} {t : Tuning} {a e m : ℕ} → Sound h → Change h c t a e → (due : e ≤ m)
     → Begun h c t a e m due
-begins h {m} g (announced {L} {d} z) due =
-    let f = accepted-fit L d (g .valid) (refuses .announces (h .voice) L d) z in
+begins h {m} g (announcing {L} {d} z) due =
+    let f = accepted-fit L d (g .valid) (refuses .prepares (h .voice) announced L d) z in
     record {
       fit = f;
       place = rw (call-accepted h (announce L d) z) (ahead (omega arith) (begins-announced h L d m f due));
@@ -131,4 +139,10 @@ begins h {m} g (instantly {L} {d} z) due =
     record {
       fit = f;
       place = rw (call-accepted h (instant L d) z) (ahead (omega arith) (begins-instant h L d m f due));
+    }
+begins h {m} g (committing {w} z p) due =
+    let f = g .valid .waiting w p .fit in
+    record {
+      fit = f;
+      place = rw (call-accepted h commit z) (ahead (omega arith) (begins-committed h m w f g p due));
     }

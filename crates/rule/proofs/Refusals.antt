@@ -4,8 +4,9 @@ use mathlib.Core.Path.{_≡_, refl}
 use mathlib.Core.Logic.{_↔_}
 use mathlib.Core.List.{List, [], _∷_}
 use mathlib.Core.Option.{Option, none, some}
-use Prim.Native.Nat.{ℕ, _≤_}
+use Prim.Native.Nat.{ℕ, _≤_, _<_}
 use native.Mathlib.Omega.{arith}
+use native.Mathlib.Decide.{decLt}
 use lib.IntN.{ℤ}
 use lib.ListN.{length}
 use borrow.Author.Tests.{eq-eqb, ne-eqb}
@@ -15,13 +16,15 @@ use Rattle.refusal.specs.Orders.{order, delay}
 use Rattle.refusal.proofs.Tests.{refused, accepted}
 use Rattle.samples.specs.Samples.{loudest}
 use Rattle.allpass.specs.Bounds.{Within, none, more}
-use Rattle.rule.specs.Voice.{Waiting, Voice}
-use Rattle.rule.specs.Tests.{long, lossy, early, waitings, idle}
+use Rattle.rule.specs.Voice.{Kind, announced, asked, Waiting, Voice}
+use Rattle.rule.specs.Tests.{long, lossy, early, waitings, idle, askings, asks, asking, takings, ready}
 use Rattle.rule.specs.Tests.{strong, lasting, matched, loud}
-use Rattle.rule.specs.Calls.{block, loss, pluck, instant, Opening, openLimits, changeLimits}
+use Rattle.rule.specs.Calls.{block, loss, pluck, instant, commit, withdraw, Opening, openLimits}
+use Rattle.rule.specs.Calls.{changeLimits}
 use Rattle.rule.specs.Calls.{number, opened, resting, count}
 use Rattle.rule.specs.State.{call, put}
 use Rattle.rule.specs.Refusals.{OpenReturns, ChangeReturns, BlockReturns, Resting, Refuses}
+use Rattle.rule.specs.Refusals.{Asked, Any, CommitReturns, WithdrawReturns}
 
 -- ---- conditions that are no limits of a number in the paper
 none-waits : (w : Option Waiting) → Between 0 (waitings w) 0 ↔ (w ≡ none)
@@ -82,6 +85,73 @@ changes v L d =
       );
     }
 
+-- L3: a change that was asked for waits if and only if the test of 21 lets it pass
+was-asked : (v : Voice) (o : Option Waiting) → v .waiting ≡ o → Between 1 (asks o) 1 → Asked v Any
+was-asked v none p b = absurd (omega (arith, b .least))
+was-asked v (some w) p b = go (w .kind) refl b
+  where
+    go : (k : Kind) → w .kind ≡ k → Between 1 (askings k) 1 → Asked v Any
+    go announced e b = absurd (omega (arith, b .least))
+    go asked e b = record { w = w; held = p; kind = e; taken = tt }
+
+passes : {P : ℕ → Type 0} (v : Voice) → Asked v P → Between 1 (asks (v .waiting)) 1
+passes v k = rw (k .held, k .kind) (record { least = omega arith; most = omega arith })
+
+took : {P : ℕ → Type 0} (v : Voice) (k : Asked v P) → takings (v .waiting) ≡ k .w .taken
+took v k = rw (k .held)
+
+with-taken : {P : ℕ → Type 0} (v : Voice) (k : Asked v Any) → P (k .w .taken) → Asked v P
+with-taken v k p = record { w = k .w; held = k .held; kind = k .kind; taken = p }
+
+any : {P : ℕ → Type 0} (v : Voice) → Asked v P → Asked v Any
+any v k = record { w = k .w; held = k .held; kind = k .kind; taken = tt }
+
+commits : (v : Voice) → CommitReturns v (number v commit)
+unfolding number
+commits v =
+    let a = asking (v .waiting) in
+    let b = ready (v .Na) (v .waiting) in
+    let one = refused [] a (b ∷ []) tt in
+    let twenty = refused (a ∷ []) b [] tt in
+    let zero = accepted a (b ∷ []) tt in
+    let was = was-asked v (v .waiting) refl in
+    record {
+      nothing = (λ e k. one .0 e (passes v k), λ f. one .1 (λ b. f (was b)));
+      before = (
+        λ e.
+            let p = twenty .0 e in
+            let k = was (p .0) in
+            with-taken v k (less k (p .1)),
+        λ k. twenty .1 (passes v k, λ b. omega (arith, b .least, took v k, k .taken)),
+      );
+      accepted = (
+        λ e.
+            let p = zero .0 e in
+            let k = was (p .0) in
+            with-taken v k (omega (arith, p .1 .least, took v k)),
+        λ k. zero .1 (passes v k, record { least = omega (arith, took v k, k .taken); most = omega arith }),
+      );
+    }
+  where
+    less : (k : Asked v Any) → (Between (v .Na) (takings (v .waiting)) (takings (v .waiting)) → ⊥)
+        → k .w .taken < v .Na
+    less k f = go (decLt (k .w .taken) (v .Na))
+      where
+        go : Dec (k .w .taken < v .Na) → k .w .taken < v .Na
+        go (yes l) = l
+        go (no l) = absurd (f (record { least = omega (arith, took v k); most = omega arith }))
+
+withdraws : (v : Voice) → WithdrawReturns v (number v withdraw)
+unfolding number
+withdraws v =
+    let one = refused [] (asking (v .waiting)) [] tt in
+    let zero = accepted (asking (v .waiting)) [] tt in
+    let was = was-asked v (v .waiting) refl in
+    record {
+      nothing = (λ e k. one .0 e (passes v k), λ f. one .1 (λ b. f (was b)));
+      accepted = (λ e. was (zero .0 e), λ k. zero .1 (passes v k));
+    }
+
 blocks : (v : Voice) (xs : List ℤ) (n : ℕ) → BlockReturns xs n (number v (block xs n))
 unfolding number
 blocks v xs n =
@@ -119,8 +189,10 @@ pub refuses : Refuses
 unfolding number opened call put count
 refuses = record {
   opens = opens;
-  announces = changes;
+  prepares = λ v k L d. changes v L d;
   instants = changes;
+  commits = commits;
+  withdraws = withdraws;
   losses = λ v G. record { loss = refused [] (lossy G) [] tt; accepted = accepted (lossy G) [] tt };
   plucks = λ v a k z. record {
     amplitude = refused [] (strong a) (lasting k ∷ []) tt;

@@ -3,28 +3,34 @@
 use mathlib.Core.Path.{_≡_, refl, sym, ap, _∙_}
 use mathlib.Core.List.{List, [], _∷_, _++_}
 use mathlib.Core.Option.{Option, none, some}
-use Prim.Native.Nat.{ℕ, _+_, _≤_, _<_}
+use Prim.Native.Nat.{ℕ, _+_, _-_, _≤_, _<_}
 use native.Mathlib.Omega.{arith}
 use native.Mathlib.Decide.{decLt, ℕ-discrete}
 use lib.IntN.{ℤ}
-use Rattle.rule.specs.Voice.{Tuning}
-use Rattle.rule.specs.Calls.{Call, block, loss, pluck, announce, instant, Opening, number, to}
+use Rattle.rule.specs.Voice.{Tuning, announced, asked}
+use Rattle.rule.specs.Calls.{Call, block, loss, pluck, prepare, instant, commit, withdraw, Opening}
+use Rattle.rule.specs.Calls.{number, to}
 use Rattle.rule.specs.History.{History, steps, call, from, fresh}
-use Rattle.rule.specs.Click.{Change, announced, instantly, NoneBy}
+use Rattle.rule.specs.Click.{Change, announcing, instantly, committing, NoneBy}
 use Rattle.rule.specs.Demands.{Rules, Single}
+use Rattle.rule.proofs.Refusals.{refuses}
 
 -- ---- when a call takes effect, if it is an accepted change
 abbrev when : History → Call → Option ℕ
 when h (block xs n) = none
 when h (loss G) = none
 when h (pluck a n z) = none
-when h (announce L d) = some (steps h + h .voice .Na)
+when h (prepare announced L d) = some (steps h + h .voice .Na)
+when h (prepare asked L d) = none
 when h (instant L d) = some (steps h)
+when h commit = some (steps h)
+when h withdraw = none
 
 pub change : {h : History} {c : Call} {t : Tuning} {a e : ℕ} → Change h c t a e
     → (number (h .voice) c ≡ 0) × (when h c ≡ some e)
-change (announced z) = (z, refl)
+change (announcing z) = (z, refl)
 change (instantly z) = (z, refl)
+change (committing z p) = (z, refl)
 
 -- the call c at h has taken effect as a change by step m, or has not
 data Taken (m : ℕ) (h : History) (c : Call) : Type 0 where
@@ -38,23 +44,38 @@ pub none-block : (m : ℕ) (h : History) (xs : List ℤ) (n : ℕ) → (t : Tuni
     → Change h (block xs n) t a e → m < e
 none-block m h xs n t a e k = absurd (unchanged h (block xs n) refl k)
 
-changed : (m : ℕ) (h : History) (c : Call) (t : Tuning) (a e : ℕ)
-    → (number (h .voice) c ≡ 0 → Change h c t a e) → Taken m h c
-changed m h c t a e make = go (ℕ-discrete (number (h .voice) c) 0) (decLt m e)
+-- an accepted call c that is a change before step e
+record At (h : History) (c : Call) (e : ℕ) : Type 0 where
+  pub t : Tuning
+  pub a : ℕ
+  pub change : Change h c t a e
+
+changed : (m : ℕ) (h : History) (c : Call) (e : ℕ) → (number (h .voice) c ≡ 0 → At h c e) → Taken m h c
+changed m h c e make = go (ℕ-discrete (number (h .voice) c) 0) (decLt m e)
   where
     go : Dec (number (h .voice) c ≡ 0) → Dec (m < e) → Taken m h c
     go (yes z) (yes l) =
-        late (λ t′ a′ e′ k. let i : e ≡ e′ = cc (change (make z) .1, change k .1) in omega arith)
-    go (yes z) (no l) = soon t a e (make z) (omega arith)
+        late (λ t′ a′ e′ k. let i : e ≡ e′ = cc (change (make z .change) .1, change k .1) in omega arith)
+    go (yes z) (no l) = let k = make z in soon (k .t) (k .a) e (k .change) (omega arith)
     go (no z) q = late (λ t′ a′ e′ k. absurd (z (change k .0)))
 
 taken : (m : ℕ) (h : History) (c : Call) → Taken m h c
 taken m h (block xs n) = late (none-block m h xs n)
 taken m h (loss G) = late (λ t a e k. absurd (unchanged h (loss G) refl k))
 taken m h (pluck i j s) = late (λ t a e k. absurd (unchanged h (pluck i j s) refl k))
-taken m h (announce L d) =
-    changed m h (announce L d) (to (h .voice) L d) (h .voice .Na) (steps h + h .voice .Na) announced
-taken m h (instant L d) = changed m h (instant L d) (to (h .voice) L d) (h .voice .Na) (steps h) instantly
+taken m h (prepare announced L d) =
+    changed m h (prepare announced L d) (steps h + h .voice .Na)
+    (λ z. record { t = to (h .voice) L d; a = h .voice .Na; change = announcing z })
+taken m h (prepare asked L d) = late (λ t a e k. absurd (unchanged h (prepare asked L d) refl k))
+taken m h (instant L d) =
+    changed m h (instant L d) (steps h)
+    (λ z. record { t = to (h .voice) L d; a = h .voice .Na; change = instantly z })
+taken m h commit =
+    changed m h commit (steps h)
+    (λ z.
+    let k = refuses .commits (h .voice) .accepted .0 z in
+    record { t = k .w .tuning; a = steps h - h .began; change = committing z (k .held) })
+taken m h withdraw = late (λ t a e k. absurd (unchanged h withdraw refl k))
 
 -- ---- the change in force at step m
 pub data Covered (m : ℕ) (h : History) (cs : List Call) : Type 0 where

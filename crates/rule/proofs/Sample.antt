@@ -2,12 +2,15 @@
 -- Assumes nothing.
 use mathlib.Core.Path.{_≡_, refl, sym, _∙_}
 use mathlib.Core.List.{List, [], _∷_}
+use mathlib.Core.Option.{some}
+use Prim.Native.Nat.{suc, _<_}
 use native.Mathlib.Omega.{arith}
+use native.Mathlib.Decide.{ℕ-discrete}
 use lib.IntN.{ℤ, pos}
 use lib.ListN.{getD, List·getD-append}
 use lib.Seq.{getD-at}
 use Rattle.integer.specs.Rounding.{Q}
-use Rattle.rule.specs.Voice.{output, written}
+use Rattle.rule.specs.Voice.{announced, Waiting, output, written}
 use Rattle.rule.specs.Calls.{Call, Opening}
 use Rattle.rule.specs.History.{History, steps, ago, step, after}
 use Rattle.rule.specs.Demands.{Sample}
@@ -18,6 +21,16 @@ module _ (h : History) (x : ℤ) (g : Sound h) where
   output-now : getD (step h x .y) (steps h) (pos 0) ≡ output (h .voice) (ago h)
   unfolding step
   output-now = getD-at (h .y) (output (h .voice) (ago h)) [] (pos 0) (steps h) (g .even)
+
+  -- an announced change has taken fewer than Na samples, and fewer still where this one is not the last
+  less : (w : Waiting) → h .voice .waiting ≡ some w
+      → (w .kind ≡ announced → suc (w .taken) ≡ h .voice .Na → ⊥)
+      → w .kind ≡ announced → suc (w .taken) < h .voice .Na
+  less w p f κ = go (ℕ-discrete (suc (w .taken)) (h .voice .Na))
+    where
+      go : Dec (suc (w .taken) ≡ h .voice .Na) → suc (w .taken) < h .voice .Na
+      go (yes e) = absurd (f κ e)
+      go (no n) = omega (arith, g .valid .waiting w p .early κ)
 
   pub sampled : Sample h x
   unfolding step output written Q
@@ -39,8 +52,8 @@ module _ (h : History) (x : ℤ) (g : Sound h) where
         last = step-keeps h x .last ∙ sym output-now;
         pluck = step-keeps h x .pluck;
         idle = stepped-idle v (ago h);
-        waits = stepped-waits v (ago h);
-        switches = stepped-switches v (ago h);
+        waits = λ w p f. stepped-waits v (ago h) w p (less w p f);
+        switches = λ w p κ e. stepped-switches v (ago h) w p κ (omega arith);
       }
 
 pub sample : (o : Opening) (cs : List Call) (x : ℤ) → Sample (after o cs) x

@@ -1,9 +1,9 @@
 -- What holds of every history that calls reach. In chief: a waiting change's eliminator is the filter that
--- was at rest as many steps ago as it has taken samples. Assumes nothing.
+-- was at rest when the change was called. Assumes nothing.
 use mathlib.Core.Path.{_≡_, refl, sym, ap, subst, _∙_}
 use mathlib.Core.List.{List, [], _∷_, _++_}
 use mathlib.Core.Option.{none, some}
-use Prim.Native.Nat.{ℕ, suc, _-_, _≤_}
+use Prim.Native.Nat.{ℕ, suc, _-_, _≤_, min}
 use native.Mathlib.Omega.{arith}
 use lib.IntN.{ℤ, pos, natAbs}
 use lib.ListN.{length, getD, length-append}
@@ -13,14 +13,16 @@ use Rattle.allpass.specs.Allpass.{next, run}
 use Rattle.allpass.specs.Bounds.{Within, none, more}
 use Rattle.allpass.proofs.Contraction.{run-append}
 use Rattle.rule.specs.Voice.{Tuning, Waiting, Voice, A, rest, output, written}
-use Rattle.rule.specs.Calls.{Call, block, loss, pluck, announce, instant, Opening, number, done, window}
+use Rattle.rule.specs.Calls.{Call, block, loss, pluck, prepare, instant, commit, withdraw, Opening}
+use Rattle.rule.specs.Calls.{number, done, to, window}
 use Rattle.rule.specs.History.{History, read, steps, ago, step, told, call, fresh, after}
 use Rattle.rule.specs.Valid.{Valid, Samples}
 use Rattle.rule.proofs.Read.{read-at, read-step, read-before, read-within, window-grows}
 use Rattle.rule.proofs.Filters.{written-within}
-use Rattle.rule.proofs.Keeps.{none-some, same-some, keeps, announced-waits}
+use Rattle.rule.proofs.Refusals.{refuses}
+use Rattle.rule.proofs.Keeps.{none-some, same-some, keeps, prepared-waits}
 use Rattle.rule.proofs.Walk.{call-keeps, from-keeps}
-use Rattle.rule.proofs.Steps.{step-steps, step-keeps, Goes, idle, holds, switches, step-goes}
+use Rattle.rule.proofs.Steps.{step-steps, step-began, step-keeps, Goes, idle, holds, switches, step-goes}
 use Rattle.rule.proofs.Voices.{stepped-valid, done-valid}
 use Rattle.rule.proofs.Opened.{opened-rested}
 
@@ -28,9 +30,15 @@ use Rattle.rule.proofs.Opened.{opened-rested}
 abbrev pub Ran : History → Tuning → ℕ → List ℤ → Type 0
 Ran h t a v = v ≡ run (A t) (rest t) (window (ago h) (t .L) a)
 
+-- w waits at h: it has taken all the samples since it was called, and counts them up to Na
+pub record Runs (h : History) (w : Waiting) : Type 0 where
+  pub since : h .began ≤ steps h
+  pub taken : w .taken ≡ min (steps h - h .began) (h .voice .Na)
+  pub ran : Ran h (w .tuning) (steps h - h .began) (w .state)
+
 pub record Sound (h : History) : Type 0 where
   pub valid : Valid (h .voice)
-  pub waiting : (w : Waiting) → h .voice .waiting ≡ some w → Ran h (w .tuning) (w .taken) (w .state)
+  pub waiting : (w : Waiting) → h .voice .waiting ≡ some w → Runs h w
   pub even : length (h .y) ≡ length (h .s)
   pub small : Within M (h .s)
   pub last : h .voice .last ≡ read (h .y) (steps h) 1
@@ -56,17 +64,23 @@ within-snoc x p (more q h) = more q (within-snoc x p h)
 
 -- ---- a step
 waiting-step : (h : History) (x : ℤ) → Sound h → (w : Waiting) → step h x .voice .waiting ≡ some w
-    → Ran (step h x) (w .tuning) (w .taken) (w .state)
-waiting-step h x g w p = go (step-goes h x)
+    → Runs (step h x) w
+waiting-step h x g w p = go (step-goes h x) (step-steps h x) (step-began h x)
   where
-    go : Goes (h .voice) (ago h) (step h x .voice) → Ran (step h x) (w .tuning) (w .taken) (w .state)
-    go (idle q k) = absurd (none-some (sym (k .waiting) ∙ p))
-    go (switches u q e k) = absurd (none-some (sym (k .waiting) ∙ p))
-    go (holds u q f k) =
-        subst (λ (z : Waiting). Ran (step h x) (z .tuning) (z .taken) (z .state))
-        (same-some (sym (k .waiting) ∙ p))
-        (ran-step h x (u .tuning) (u .taken) (suc (u .taken)) (u .state)
-        (g .valid .waiting u q .fit .short) refl (g .waiting u q))
+    go : Goes (h .voice) (ago h) (step h x .voice) → steps (step h x) ≡ suc (steps h)
+        → step h x .began ≡ h .began → Runs (step h x) w
+    go (idle q k) n b = absurd (none-some (sym (k .waiting) ∙ p))
+    go (switches u q e l k) n b = absurd (none-some (sym (k .waiting) ∙ p))
+    go (holds u q f k) n b =
+        let i = g .waiting u q in
+        subst (Runs (step h x)) (same-some (sym (k .waiting) ∙ p))
+        (record {
+          since = omega (arith, i .since);
+          taken = omega (arith, i .since, i .taken, step-keeps h x .advance);
+          ran =
+              ran-step h x (u .tuning) (steps h - h .began) (steps (step h x) - step h x .began) (u .state)
+              (g .valid .waiting u q .fit .short) (omega (arith, i .since)) (i .ran);
+        })
 
 -- the newest output stands one step back
 last-step : (h : History) (x : ℤ) → length (h .y) ≡ length (h .s)
@@ -96,24 +110,39 @@ step-sound h x g =
     }
 
 -- ---- a call
+ran-none : (h : History) (t : Tuning) (a : ℕ) → a ≡ 0 → Ran h t a (rest t)
+ran-none h t a e = rw e refl
+
 waiting-told : (h : History) (c : Call) → number (h .voice) c ≡ 0 → Sound h
-    → (w : Waiting) → told h c .voice .waiting ≡ some w → Ran h (w .tuning) (w .taken) (w .state)
+    → (w : Waiting) → told h c .voice .waiting ≡ some w → Runs (told h c) w
 unfolding done
 waiting-told h (block xs n) e g w p = g .waiting w p
-waiting-told h (loss G) e g w p = g .waiting w p
-waiting-told h (pluck a n z) e g w p = g .waiting w p
-waiting-told h (announce L d) e g w p =
-    subst (λ (z : Waiting). Ran h (z .tuning) (z .taken) (z .state))
-    (announced-waits (h .voice) (ago h) L d p) refl
+waiting-told h (loss G) e g w p =
+    let i = g .waiting w p in record { since = i .since; taken = i .taken; ran = i .ran }
+waiting-told h (pluck a n z) e g w p =
+    let i = g .waiting w p in record { since = i .since; taken = i .taken; ran = i .ran }
+waiting-told h (prepare k L d) e g w p =
+    subst (Runs (told h (prepare k L d))) (prepared-waits (h .voice) (ago h) k L d p)
+    (record {
+      since = omega arith;
+      taken = omega arith;
+      ran = ran-none h (to (h .voice) L d) (steps h - steps h) (omega arith);
+    })
 waiting-told h (instant L d) e g w p = absurd (none-some p)
+waiting-told h commit e g w p =
+    let k = refuses .commits (h .voice) .accepted .0 e in
+    absurd (none-some (sym (keeps (h .voice) (ago h) .commit-now (k .w) (k .held) .waiting) ∙ p))
+waiting-told h withdraw e g w p = absurd (none-some p)
 
 last-told : (v : Voice) (r : ℕ → ℤ) (c : Call) → done v r c .last ≡ v .last
 unfolding done
 last-told v r (block xs n) = refl
 last-told v r (loss G) = refl
 last-told v r (pluck a n z) = refl
-last-told v r (announce L d) = keeps v r .announce-rest L d .last
+last-told v r (prepare k L d) = keeps v r .prepare-rest k L d .last
 last-told v r (instant L d) = refl
+last-told v r commit = keeps v r .commit-rest .last
+last-told v r withdraw = refl
 
 pub told-sound : (h : History) (c : Call) → number (h .voice) c ≡ 0 → Sound h → Sound (told h c)
 told-sound h c e g = record {
@@ -141,3 +170,19 @@ fresh-sound o =
 
 pub after-sound : (o : Opening) (cs : List Call) → Sound (after o cs)
 after-sound o cs = from-keeps Sound step-sound told-sound cs (fresh o) (fresh-sound o)
+
+-- ---- the advance is that of opening
+advance-told : (h : History) (c : Call) → told h c .voice .Na ≡ h .voice .Na
+unfolding done
+advance-told h (block xs n) = refl
+advance-told h (loss G) = refl
+advance-told h (pluck a n z) = refl
+advance-told h (prepare k L d) = keeps (h .voice) (ago h) .prepare-rest k L d .advance
+advance-told h (instant L d) = refl
+advance-told h commit = keeps (h .voice) (ago h) .commit-rest .advance
+advance-told h withdraw = refl
+
+pub advance : (o : Opening) (cs : List Call) → after o cs .voice .Na ≡ fresh o .voice .Na
+advance o cs =
+    from-keeps (λ h. h .voice .Na ≡ fresh o .voice .Na) (λ h x p. step-keeps h x .advance ∙ p)
+    (λ h c e p. advance-told h c ∙ p) cs (fresh o) refl

@@ -1,28 +1,29 @@
 -- What one step does to a voice, by what waits there.
 -- Assumes nothing.
 use mathlib.Core.Path.{_≡_, refl}
+use mathlib.Core.Bool.{true, false}
 use mathlib.Core.List.{List, [], _∷_}
 use mathlib.Core.Option.{Option, none, some}
-use Prim.Native.Nat.{ℕ, suc}
+use Prim.Native.Nat.{ℕ, suc, _≤_, _<_, min}
 use native.Mathlib.Omega.{arith}
-use native.Mathlib.Decide.{ℕ-discrete}
+use native.Mathlib.Decide.{decLt}
 use borrow.Author.Tests.{eq-eqb, ne-eqb}
-use lib.Dec.{eqb}
 use lib.IntN.{ℤ}
 use lib.ListN.{length-append}
 use Rattle.allpass.specs.Allpass.{next}
-use Rattle.rule.specs.Voice.{Waiting, Voice, A, output, written, settled, heard, stepped}
+use Rattle.rule.specs.Voice.{Kind, announced, asked, Waiting, Voice, A, output, written, fed, commits}
+use Rattle.rule.specs.Voice.{settled, heard, stepped}
 use Rattle.rule.specs.History.{History, steps, ago, step}
 use Rattle.rule.specs.Keeps.{InForce, Retuned}
-use Rattle.rule.proofs.Keeps.{either-keeps}
+use Rattle.rule.proofs.Keeps.{either-keeps, announced-asked}
 
--- an eliminator that has taken one more sample
-abbrev pub onward : (ℕ → ℤ) → Waiting → Waiting
-onward r w = record {
-  tuning = w .tuning;
-  taken = suc (w .taken);
-  state = next (A (w .tuning)) (w .state) (r (w .tuning .L));
-}
+-- an announced change commits itself with the sample that makes Na; no other does
+pub commits-not : (k : Kind) (n Na : ℕ) → (k ≡ announced → n < Na) → commits k n Na ≡ false
+commits-not announced n Na l = ne-eqb n Na (λ e. omega (arith, l refl))
+commits-not asked n Na l = refl
+
+commits-now : {k : Kind} (n Na : ℕ) → k ≡ announced → Na ≤ n → commits k (min n Na) Na ≡ true
+commits-now n Na e l = rw e (eq-eqb (min n Na) Na (omega arith))
 
 module _ (v : Voice) (r : ℕ → ℤ) where
   abbrev pub filtered : List ℤ
@@ -32,17 +33,18 @@ module _ (v : Voice) (r : ℕ → ℤ) where
   unfolding stepped settled
   stepped-idle p = rw p (record { tuning = refl; state = refl; waiting = refl })
 
-  pub stepped-waits : (w : Waiting) → v .waiting ≡ some w → (suc (w .taken) ≡ v .Na → ⊥)
-      → InForce (stepped v r) (v .tuning) filtered (some (onward r w))
+  pub stepped-waits : (w : Waiting) → v .waiting ≡ some w → (w .kind ≡ announced → suc (w .taken) < v .Na)
+      → InForce (stepped v r) (v .tuning) filtered (some (fed (v .Na) w r))
   unfolding stepped settled
-  stepped-waits w p f =
-      rw (p, ne-eqb (suc (w .taken)) (v .Na) f) (record { tuning = refl; state = refl; waiting = refl })
+  stepped-waits w p l =
+      rw (p, commits-not (w .kind) (min (suc (w .taken)) (v .Na)) (v .Na) (λ e. omega (arith, l e)))
+      (record { tuning = refl; state = refl; waiting = refl })
 
-  pub stepped-switches : (w : Waiting) → v .waiting ≡ some w → suc (w .taken) ≡ v .Na
-      → InForce (stepped v r) (w .tuning) (onward r w .state) none
+  pub stepped-switches : (w : Waiting) → v .waiting ≡ some w → w .kind ≡ announced → v .Na ≤ suc (w .taken)
+      → InForce (stepped v r) (w .tuning) (fed (v .Na) w r .state) none
   unfolding stepped settled
-  stepped-switches w p e =
-      rw (p, eq-eqb (suc (w .taken)) (v .Na) e) (record { tuning = refl; state = refl; waiting = refl })
+  stepped-switches w p e l =
+      rw (p, commits-now (suc (w .taken)) (v .Na) e l) (record { tuning = refl; state = refl; waiting = refl })
 
   pub stepped-keeps : Retuned (heard v r) (stepped v r)
   unfolding stepped settled output
@@ -50,26 +52,31 @@ module _ (v : Voice) (r : ℕ → ℤ) where
     where
       go : (o : Option Waiting) → v .waiting ≡ o → Retuned (heard v r) (stepped v r)
       go none p = rw p (record { loss = refl; advance = refl; last = refl; pluck = refl })
-      go (some w) p = rw p (either-keeps (eqb (suc (w .taken)) (v .Na)) (heard v r) _ _ _ _ _ _)
+      go (some w) p =
+          rw p
+          (either-keeps (commits (w .kind) (min (suc (w .taken)) (v .Na)) (v .Na)) (heard v r) _ _ _ _ _ _)
 
   -- u is v after the step, by one of the three
   pub data Goes (u : Voice) : Type 0 where
     idle : v .waiting ≡ none → InForce u (v .tuning) filtered none → Goes u
-    holds : (w : Waiting) → v .waiting ≡ some w → (suc (w .taken) ≡ v .Na → ⊥)
-        → InForce u (v .tuning) filtered (some (onward r w)) → Goes u
-    switches : (w : Waiting) → v .waiting ≡ some w → suc (w .taken) ≡ v .Na
-        → InForce u (w .tuning) (onward r w .state) none → Goes u
+    holds : (w : Waiting) → v .waiting ≡ some w → (w .kind ≡ announced → suc (w .taken) < v .Na)
+        → InForce u (v .tuning) filtered (some (fed (v .Na) w r)) → Goes u
+    switches : (w : Waiting) → v .waiting ≡ some w → w .kind ≡ announced → v .Na ≤ suc (w .taken)
+        → InForce u (w .tuning) (fed (v .Na) w r .state) none → Goes u
 
   pub goes : Goes (stepped v r)
   goes = go (v .waiting) refl
     where
       go : (o : Option Waiting) → v .waiting ≡ o → Goes (stepped v r)
       go none p = idle p (stepped-idle p)
-      go (some w) p = at (ℕ-discrete (suc (w .taken)) (v .Na))
+      go (some w) p = at (decLt (suc (w .taken)) (v .Na)) (w .kind) refl
         where
-          at : Dec (suc (w .taken) ≡ v .Na) → Goes (stepped v r)
-          at (yes e) = switches w p e (stepped-switches w p e)
-          at (no f) = holds w p f (stepped-waits w p f)
+          at : Dec (suc (w .taken) < v .Na) → (k : Kind) → w .kind ≡ k → Goes (stepped v r)
+          at (yes l) k e = holds w p (λ i. l) (stepped-waits w p (λ i. l))
+          at (no l) announced e = switches w p e (omega arith) (stepped-switches w p e (omega arith))
+          at (no l) asked e =
+              let f : w .kind ≡ announced → suc (w .taken) < v .Na = λ i. absurd (announced-asked i e) in
+              holds w p f (stepped-waits w p f)
 
 -- ---- of a history
 module _ (h : History) (x : ℤ) where
@@ -85,12 +92,6 @@ module _ (h : History) (x : ℤ) where
   unfolding step
   step-goes = goes (h .voice) (ago h)
 
-  pub step-waits : (w : Waiting) → h .voice .waiting ≡ some w → (suc (w .taken) ≡ h .voice .Na → ⊥)
-      → InForce (step h x .voice) (h .voice .tuning) (filtered (h .voice) (ago h)) (some (onward (ago h) w))
+  pub step-began : step h x .began ≡ h .began
   unfolding step
-  step-waits = stepped-waits (h .voice) (ago h)
-
-  pub step-switches : (w : Waiting) → h .voice .waiting ≡ some w → suc (w .taken) ≡ h .voice .Na
-      → InForce (step h x .voice) (w .tuning) (onward (ago h) w .state) none
-  unfolding step
-  step-switches = stepped-switches (h .voice) (ago h)
+  step-began = refl

@@ -8,16 +8,18 @@ use native.Mathlib.Omega.{arith}
 use native.Mathlib.Decide.{decLt, ℕ-discrete}
 use lib.IntN.{ℤ}
 use borrow.Author.Tests.{le-leb, lt-leb}
-use Rattle.rule.specs.Voice.{Tuning, Waiting, Pluck, Voice, spent, heard, stepped}
-use Rattle.rule.specs.Calls.{Call, block, loss, pluck, announce, instant, number, done, to}
+use Rattle.rule.specs.Voice.{Tuning, Kind, announced, asked, Waiting, Pluck, Voice, fed, spent, heard}
+use Rattle.rule.specs.Voice.{stepped}
+use Rattle.rule.specs.Calls.{Call, block, loss, pluck, prepare, instant, commit, withdraw}
+use Rattle.rule.specs.Calls.{number, start, done, to}
 use Rattle.rule.specs.Valid.{Tunable, Filled, Coming, Plucked, Valid, Samples}
 use Rattle.rule.specs.Keeps.{InForce, Retuned}
 use Rattle.rule.proofs.Refusals.{refuses}
 use Rattle.rule.proofs.Read.{window-within}
 use Rattle.rule.proofs.Filters.{rest-filled, next-filled, run-filled, output-within}
-use Rattle.rule.proofs.Keeps.{none-some, same-some, keeps, start}
+use Rattle.rule.proofs.Keeps.{none-some, same-some, keeps, announced-asked}
 use Rattle.rule.proofs.Accepted.{accepted-fit}
-use Rattle.rule.proofs.Steps.{onward, stepped-keeps, Goes, idle, holds, switches, goes}
+use Rattle.rule.proofs.Steps.{stepped-keeps, Goes, idle, holds, switches, goes}
 
 -- ---- a voice that differs in what a change touches
 tuned-valid : {v u : Voice} {t : Tuning} {q : List ℤ} {o : Option Waiting} → Retuned v u → InForce u t q o
@@ -69,7 +71,7 @@ stepped-valid v r s h = go (goes v r)
     g : Valid (heard v r)
     g = heard-valid v r s h
 
-    fed-filled : (w : Waiting) → Coming (v .Na) w → Filled (w .tuning .N) (onward r w .state)
+    fed-filled : (w : Waiting) → Coming (v .Na) w → Filled (w .tuning .N) (fed (v .Na) w r .state)
     fed-filled w c =
         next-filled (w .tuning) (w .state) (r (w .tuning .L)) (c .fit) (c .state) (s (w .tuning .L))
 
@@ -77,10 +79,15 @@ stepped-valid v r s h = go (goes v r)
     go (idle p k) = tuned-valid (stepped-keeps v r) k g (g .fit) (g .state) none-coming
     go (holds w p f k) =
         let c = h .waiting w p in
-        let d : Coming (v .Na) (onward r w)
-        = record { fit = c .fit; taken = omega (arith, c .taken); state = fed-filled w c } in
+        let d : Coming (v .Na) (fed (v .Na) w r)
+        = record {
+          fit = c .fit;
+          counted = omega arith;
+          early = λ e. omega (arith, f e);
+          state = fed-filled w c;
+        } in
         tuned-valid (stepped-keeps v r) k g (g .fit) (g .state) (one-coming d)
-    go (switches w p e k) =
+    go (switches w p e l k) =
         let c = h .waiting w p in
         tuned-valid (stepped-keeps v r) k g (c .fit) (fed-filled w c) none-coming
 
@@ -113,24 +120,36 @@ done-valid v r (pluck a n z) e s h =
         over = λ i. absurd (omega (arith, p .1 .least));
       };
     }
-done-valid v r (announce L d) e s h = go (ℕ-discrete (v .Na) 0)
+done-valid v r (prepare k L d) e s h = go k (ℕ-discrete (v .Na) 0)
   where
     t : Tuning
     t = to v L d
 
     f : Tunable t
-    f = accepted-fit L d h (refuses .announces v L d) e
+    f = accepted-fit L d h (refuses .prepares v k L d) e
 
-    go : Dec (v .Na ≡ 0) → Valid (done v r (announce L d))
-    go (yes i) =
-        tuned-valid (keeps v r .announce-rest L d) (keeps v r .announce-now L d i) h f
+    begins : (k : Kind) → (k ≡ announced → 0 < v .Na) → Coming (v .Na) (start k t)
+    begins k l = record { fit = f; counted = omega arith; early = l; state = rest-filled t }
+
+    go : (k : Kind) → Dec (v .Na ≡ 0) → Valid (done v r (prepare k L d))
+    go announced (yes i) =
+        tuned-valid (keeps v r .prepare-rest announced L d) (keeps v r .announce-now L d i) h f
         (rest-filled t) none-coming
-    go (no i) =
-        let c : Coming (v .Na) (start t) = record { fit = f; taken = omega arith; state = rest-filled t } in
-        tuned-valid (keeps v r .announce-rest L d) (keeps v r .announce-waits L d (omega arith)) h (h .fit)
-        (h .state) (one-coming c)
+    go announced (no i) =
+        tuned-valid (keeps v r .prepare-rest announced L d) (keeps v r .announce-waits L d (omega arith)) h
+        (h .fit) (h .state) (one-coming (begins announced (λ e. omega arith)))
+    go asked i =
+        tuned-valid (keeps v r .prepare-rest asked L d) (keeps v r .ask-waits L d) h (h .fit) (h .state)
+        (one-coming (begins asked (λ e. absurd (announced-asked e refl))))
 done-valid v r (instant L d) e s h =
     let t = to v L d in
     let f = accepted-fit L d h (refuses .instants v L d) e in
     tuned-valid (keeps v r .instant-rest L d) (keeps v r .instant-now L d) h f
     (run-filled t _ f (rest-filled t) (window-within r L (v .Na) s)) none-coming
+done-valid v r commit e s h =
+    let k = refuses .commits v .accepted .0 e in
+    let c = h .waiting (k .w) (k .held) in
+    tuned-valid (keeps v r .commit-rest) (keeps v r .commit-now (k .w) (k .held)) h (c .fit) (c .state)
+    none-coming
+done-valid v r withdraw e s h =
+    tuned-valid (keeps v r .withdraw-rest) (keeps v r .withdraw-drops) h (h .fit) (h .state) none-coming

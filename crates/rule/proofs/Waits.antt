@@ -1,141 +1,177 @@
--- A change waits if and only if an accepted one has not taken effect yet, and it is that one.
--- Assumes nothing.
+-- A change waits if and only if an accepted announced one has not taken effect yet, or an accepted ask was
+-- neither committed nor withdrawn; and it is that one. Assumes nothing.
 use mathlib.Core.Path.{_≡_, refl, sym, ap, subst, _∙_}
-use mathlib.Core.List.{List, [], _∷_, _++_}
+use mathlib.Core.List.{List, [], _∷_, _++_, append-nil, append-assoc}
 use mathlib.Core.Option.{some}
-use Prim.Native.Nat.{ℕ, suc, _+_, _≤_, _<_}
+use Prim.Native.Nat.{ℕ, _+_, _<_}
 use native.Mathlib.Omega.{arith}
 use native.Mathlib.Decide.{ℕ-discrete}
 use lib.IntN.{ℤ}
-use Rattle.rule.specs.Voice.{Tuning, Waiting}
-use Rattle.rule.specs.Calls.{Call, block, loss, pluck, announce, instant, Opening, number, done, to}
+use Rattle.rule.specs.Voice.{Tuning, Kind, announced, asked, Waiting}
+use Rattle.rule.specs.Calls.{Call, block, loss, pluck, announce, ask, prepare, instant, commit, withdraw}
+use Rattle.rule.specs.Calls.{Opening, number, done, inputs, to, opened}
 use Rattle.rule.specs.History.{History, steps, ago, step, told, call, from, fresh, after}
-use Rattle.rule.specs.Click.{Change, announced, instantly}
-use Rattle.rule.specs.Demands.{Awaited, Pending, Waits}
+use Rattle.rule.specs.Demands.{Awaited, Ends, Kept, Pending, announcement, request, Waits}
 use Rattle.rule.proofs.Refusals.{refuses}
-use Rattle.rule.proofs.Keeps.{none-some, same-some, start, keeps, announced-waits}
-use Rattle.rule.proofs.Accepted.{not-while}
+use Rattle.rule.proofs.Keeps.{none-some, same-some, keeps, prepared-waits}
 use Rattle.rule.proofs.Opened.{opened-rested}
-use Rattle.rule.proofs.Walk.{call-keeps, from-keeps, after-split, call-accepted}
-use Rattle.rule.proofs.Steps.{onward, Goes, idle, holds, switches}
-use Rattle.rule.proofs.Steps.{step-steps, step-keeps, step-waits, step-goes}
-use Rattle.rule.proofs.Sound.{after-sound}
+use Rattle.rule.proofs.Walk.{through-keeps, from-append, after-split, call-accepted}
+use Rattle.rule.proofs.Counts.{counts}
+use Rattle.rule.proofs.Steps.{Goes, idle, holds, switches, step-began, step-goes}
+use Rattle.rule.proofs.Sound.{call-sound, after-sound, advance}
+use Rattle.rule.proofs.Stands.{Stands, stands-ask, stands-kept, Holds, still, gone}
+use Rattle.rule.proofs.Stands.{holds-announce, holds-from}
 
--- ---- what waits was called: Q t e says that a change to t that takes effect before step e was
-module _ (Q : Tuning → ℕ → Type 0) where
-  record Owed (n : ℕ) (w : Waiting) : Type 0 where
-    pub e : ℕ
-    pub called : Q (w .tuning) e
-    pub due : n ≡ e + w .taken
+-- ---- what waits after a call: what the call prepared, or what waited before and the call did not end
+module _ (h : History) (c : Call) where
+  data Comes (u : History) (w : Waiting) : Type 0 where
+    anew : {L d : ℕ} → c ≡ prepare (w .kind) L d → number (h .voice) c ≡ 0 → to (h .voice) L d ≡ w .tuning
+        → u .began ≡ steps h → Comes u w
+    again : (x : Waiting) → h .voice .waiting ≡ some x → x .kind ≡ w .kind → x .tuning ≡ w .tuning
+        → u .began ≡ h .began → (Ends c → number (h .voice) c ≡ 0 → ⊥) → Comes u w
 
-  abbrev Own : History → Type 0
-  Own h = (w : Waiting) → h .voice .waiting ≡ some w → Owed (steps h + h .voice .Na) w
+  abbrev AllCome : History → Type 0
+  AllCome u = (w : Waiting) → u .voice .waiting ≡ some w → Comes u w
 
-  own-step : (h : History) (x : ℤ) → Own h → Own (step h x)
-  own-step h x own w p = go (step-goes h x)
+  come-step : (u : History) (x : ℤ) → AllCome u → AllCome (step u x)
+  come-step u x f w p = go (step-goes u x) (step-began u x)
     where
-      go : Goes (h .voice) (ago h) (step h x .voice) → Owed (steps (step h x) + step h x .voice .Na) w
-      go (idle q k) = absurd (none-some (sym (k .waiting) ∙ p))
-      go (switches u q i k) = absurd (none-some (sym (k .waiting) ∙ p))
-      go (holds u q f k) =
-          let o = own u q in
-          subst (Owed (steps (step h x) + step h x .voice .Na)) (same-some (sym (k .waiting) ∙ p))
-          (record {
-            e = o .e;
-            called = o .called;
-            due = omega (arith, o .due, step-steps h x, step-keeps h x .advance);
-          })
+      on : (z : Waiting) → z .kind ≡ w .kind → z .tuning ≡ w .tuning → step u x .began ≡ u .began
+          → Comes u z → Comes (step u x) w
+      on z κ τ b (anew {L} {d} e a t s) = anew (e ∙ ap (λ (k : Kind). prepare k L d) κ) a (t ∙ τ) (b ∙ s)
+      on z κ τ b (again y q k t s n) = again y q (k ∙ κ) (t ∙ τ) (b ∙ s) n
 
-  own-told : (h : History) (c : Call) → ((t : Tuning) (a e : ℕ) → Change h c t a e → Q t e)
-      → number (h .voice) c ≡ 0 → Own h
-      → (w : Waiting) → told h c .voice .waiting ≡ some w → Owed (steps (told h c) + told h c .voice .Na) w
-  unfolding done
-  own-told h (block xs n) f z own w p = own w p
-  own-told h (loss G) f z own w p = own w p
-  own-told h (pluck a n s) f z own w p = own w p
-  own-told h (instant L d) f z own w p = absurd (none-some p)
-  own-told h (announce L d) f z own w p =
-      subst (Owed (steps h + told h (announce L d) .voice .Na)) (announced-waits (h .voice) (ago h) L d p)
-      (record {
-        e = steps h + h .voice .Na;
-        called = f _ _ _ (announced z);
-        due = omega (arith, keeps (h .voice) (ago h) .announce-rest L d .advance);
-      })
+      go : Goes (u .voice) (ago u) (step u x .voice) → step u x .began ≡ u .began → Comes (step u x) w
+      go (idle q k) b = absurd (none-some (sym (k .waiting) ∙ p))
+      go (switches z q e l k) b = absurd (none-some (sym (k .waiting) ∙ p))
+      go (holds z q l k) b =
+          let i = same-some (sym (k .waiting) ∙ p) in
+          on z (ap (λ (y : Waiting). y .kind) i) (ap (λ (y : Waiting). y .tuning) i) b (f z q)
 
-  own-from : (cs : List Call) (h : History)
-      → ((pre post : List Call) (c : Call) (t : Tuning) (a e : ℕ) → cs ≡ pre ++ c ∷ post
-      → Change (from h pre) c t a e → Q t e)
-      → Own h
-      → Own (from h cs)
-  own-from [] h f own = own
-  own-from (c ∷ cs) h f own =
-      own-from cs (call h c)
-      (λ pre post c′ t a e s k. f (c ∷ pre) post c′ t a e (ap (λ (x : List Call). c ∷ x) s) k)
-      (call-keeps Own own-step h c (λ z. own-told h c (λ t a e k. f [] cs c t a e refl k) z own) own)
+come-told : (h : History) (c : Call) → number (h .voice) c ≡ 0 → AllCome h c (told h c)
+unfolding done
+come-told h (block xs n) z w p = again w p refl refl refl (λ k e. absurd k)
+come-told h (loss G) z w p = again w p refl refl refl (λ k e. absurd k)
+come-told h (pluck a n y) z w p = again w p refl refl refl (λ k e. absurd k)
+come-told h (prepare k L d) z w p =
+    let i = prepared-waits (h .voice) (ago h) k L d p in
+    anew (ap (λ (y : Waiting). prepare (y .kind) L d) i) z (ap (λ (y : Waiting). y .tuning) i) refl
+come-told h (instant L d) z w p = absurd (none-some p)
+come-told h commit z w p =
+    let k = refuses .commits (h .voice) .accepted .0 z in
+    absurd (none-some (sym (keeps (h .voice) (ago h) .commit-now (k .w) (k .held) .waiting) ∙ p))
+come-told h withdraw z w p = absurd (none-some p)
 
--- ---- an accepted change waits until it takes effect
-module _ (t : Tuning) (e : ℕ) where
-  data Held (h : History) : Type 0 where
-    still : (w : Waiting) → h .voice .waiting ≡ some w → w .tuning ≡ t
-        → steps h + h .voice .Na ≡ e + w .taken → Held h
-    gone : e ≤ steps h → Held h
-
-  held-step : (h : History) (x : ℤ) → Held h → Held (step h x)
-  held-step h x (gone l) = gone (omega (arith, step-steps h x))
-  held-step h x (still w p q i) = go (ℕ-discrete (suc (w .taken)) (h .voice .Na)) (step-steps h x)
-    where
-      go : Dec (suc (w .taken) ≡ h .voice .Na) → steps (step h x) ≡ suc (steps h) → Held (step h x)
-      go (yes j) s = gone (omega arith)
-      go (no f) s =
-          still (onward (ago h) w) (step-waits h x w p f .waiting) q (omega (arith, step-keeps h x .advance))
-
-  held-told : (h : History) (c : Call) → number (h .voice) c ≡ 0 → Held h → Held (told h c)
-  unfolding done
-  held-told h c z (gone l) = gone l
-  held-told h (block xs n) z (still w p q i) = still w p q i
-  held-told h (loss G) z (still w p q i) = still w p q i
-  held-told h (pluck a n s) z (still w p q i) = still w p q i
-  held-told h (announce L d) z (still w p q i) =
-      absurd (not-while L d (refuses .announces (h .voice) L d) z p)
-  held-told h (instant L d) z (still w p q i) = absurd (not-while L d (refuses .instants (h .voice) L d) z p)
-
-  held-from : (cs : List Call) (h : History) → Held h → Held (from h cs)
-  held-from = from-keeps Held held-step held-told
-
-held-call : (h : History) {c : Call} {t : Tuning} {a e : ℕ} → Change h c t a e → Held t e (call h c)
-held-call h (instantly {L} {d} z) = rw (call-accepted h (instant L d) z) (gone (omega arith))
-held-call h (announced {L} {d} z) = rw (call-accepted h (announce L d) z) (go (ℕ-discrete (h .voice .Na) 0))
+come-call : (h : History) (c : Call) → AllCome h c (call h c)
+come-call h c = go (ℕ-discrete (number (h .voice) c) 0)
   where
-    go : Dec (h .voice .Na ≡ 0) → Held (to (h .voice) L d) (steps h + h .voice .Na) (told h (announce L d))
-    go (yes e) = gone (omega arith)
-    go (no f) =
-        let k = keeps (h .voice) (ago h) in
-        still (start (to (h .voice) L d)) (k .announce-waits L d (omega arith) .waiting) refl
-        (omega (arith, k .announce-rest L d .advance))
+    go : Dec (number (h .voice) c ≡ 0) → AllCome h c (call h c)
+    go (yes z) =
+        rw (call-accepted h c z)
+        (through-keeps (AllCome h c) (come-step h c) (inputs c) (told h c) (come-told h c z))
+    go (no f) = rw (counts h .refused-none c f) (λ w p. again w p refl refl refl (λ k. f))
+
+-- ---- where what waits comes from in a list
+kept-snoc : (cs : List Call) (h : History) (c : Call) → Kept h cs
+    → (Ends c → number (from h cs .voice) c ≡ 0 → ⊥) → Kept h (cs ++ (c ∷ []))
+kept-snoc [] h c k f = (f, tt)
+kept-snoc (b ∷ cs) h c k f = (k .0, kept-snoc cs (call h b) c (k .1) f)
+
+module _ (o : Opening) where
+  record Origin (cs : List Call) (k : Kind) (t : Tuning) : Type 0 where
+    pub pre : List Call
+    pub post : List Call
+    pub L : ℕ
+    pub d : ℕ
+    pub split : cs ≡ pre ++ prepare k L d ∷ post
+    pub accepted : number (after o pre .voice) (prepare k L d) ≡ 0
+    pub tuning : to (after o pre .voice) L d ≡ t
+    pub began : after o cs .began ≡ steps (after o pre)
+    pub kept : Kept (call (after o pre) (prepare k L d)) post
+
+  abbrev Owned : List Call → Type 0
+  Owned cs = (w : Waiting) → after o cs .voice .waiting ≡ some w → Origin cs (w .kind) (w .tuning)
+
+  own-call : (cs : List Call) (c : Call) → Owned cs → Owned (cs ++ (c ∷ []))
+  own-call cs c own w p = go (come-call (after o cs) c w (ap (λ (h : History). h .voice .waiting) (sym next) ∙ p))
+    where
+      next : after o (cs ++ (c ∷ [])) ≡ call (after o cs) c
+      next = from-append cs (c ∷ []) (fresh o)
+
+      go : Comes (after o cs) c (call (after o cs) c) w → Origin (cs ++ (c ∷ [])) (w .kind) (w .tuning)
+      go (anew {L} {d} e a t b) = record {
+        pre = cs;
+        post = [];
+        L = L;
+        d = d;
+        split = ap (λ (x : Call). cs ++ (x ∷ [])) e;
+        accepted = rw e at a;
+        tuning = t;
+        began = ap (λ (h : History). h .began) next ∙ b;
+        kept = tt;
+      }
+      go (again x q κ τ b f) =
+          let i : Origin cs (w .kind) (w .tuning) = rw (κ, τ) at (own x q) in
+          record {
+            pre = i .pre;
+            post = i .post ++ (c ∷ []);
+            L = i .L;
+            d = i .d;
+            split =
+                ap (λ (l : List Call). l ++ (c ∷ [])) (i .split)
+                ∙ append-assoc (i .pre) (prepare (w .kind) (i .L) (i .d) ∷ i .post) (c ∷ []);
+            accepted = i .accepted;
+            tuning = i .tuning;
+            began = ap (λ (h : History). h .began) next ∙ b ∙ i .began;
+            kept =
+                kept-snoc (i .post) (call (after o (i .pre)) (prepare (w .kind) (i .L) (i .d))) c (i .kept)
+                (rw (after-split o (i .pre) (i .post) (prepare (w .kind) (i .L) (i .d)) (i .split)) at f);
+          }
+
+  own-all : (cs ds : List Call) → Owned ds → Owned (ds ++ cs)
+  own-all [] ds own = subst Owned (sym (append-nil ds)) own
+  own-all (c ∷ cs) ds own =
+      subst Owned (append-assoc ds (c ∷ []) cs) (own-all cs (ds ++ (c ∷ [])) (own-call ds c own))
+
+  owned : (cs : List Call) → Owned cs
+  owned cs = own-all cs [] (λ w p. absurd (none-some (sym (opened-rested o .idle) ∙ p)))
 
 -- ---- for every opening and list
-pub waits : (o : Opening) (cs : List Call) → Waits o cs
-waits o cs t = (called, waiting)
+pending : (o : Opening) (cs : List Call) (k : Kind) (t : Tuning) (w : Waiting)
+    → after o cs .voice .waiting ≡ some w → w .kind ≡ k → Origin o cs k t → Pending o cs k t
+pending o cs asked t w p κ i =
+    subst (Pending o cs asked) (i .tuning) (request (i .pre) (i .post) (i .split) (i .accepted) (i .kept))
+pending o cs announced t w p κ i =
+    let g = after-sound o cs in
+    let r = g .waiting w p in
+    let e = g .valid .waiting w p .early κ in
+    let n = advance o cs ∙ sym (advance o (i .pre)) in
+    let ahead : steps (after o cs) < steps (after o (i .pre)) + after o (i .pre) .voice .Na
+    = omega (arith, r .since, r .taken, e, i .began, n) in
+    subst (Pending o cs announced) (i .tuning) (announcement (i .pre) (i .post) (i .split) (i .accepted) ahead)
+
+waiting : (o : Opening) (cs : List Call) {k : Kind} {t : Tuning} → Pending o cs k t
+    → Awaited (after o cs .voice) k t
+waiting o cs (request pre post {L} {d} s z k) =
+    let h = after o pre in
+    let t = to (h .voice) L d in
+    let i : Stands t (steps h) (after o cs)
+    = rw (after-split o pre post (ask L d) s)
+    (stands-kept t (steps h) post (call h (ask L d)) k (stands-ask h L d z)) in
+    record { w = i .w; held = i .held; kind = i .kind; tuning = i .tuning }
+waiting o cs (announcement pre post {L} {d} s z l) =
+    let h = after o pre in
+    go (rw (after-split o pre post (announce L d) s)
+    (holds-from (to (h .voice) L d) (steps h) (h .voice .Na) post (call h (announce L d))
+    (call-sound h (announce L d) (after-sound o pre)) (holds-announce h L d z)))
   where
-    Q : Tuning → ℕ → Type 0
-    Q t e = steps (after o cs) < e → Pending o cs t
+    go : Holds (to (after o pre .voice) L d) (steps (after o pre)) (after o pre .voice .Na) (after o cs)
+        → Awaited (after o cs .voice) announced (to (after o pre .voice) L d)
+    go (gone e) = absurd (omega arith)
+    go (still w p κ τ b n) = record { w = w; held = p; kind = κ; tuning = τ }
 
-    called : Awaited (after o cs .voice) t → Pending o cs t
-    called k =
-        let g = after-sound o cs in
-        let own = own-from Q cs (fresh o)
-        (λ pre post c t a e s i l.
-        record { pre = pre; post = post; c = c; a = a; e = e; split = s; change = i; ahead = l })
-        (λ w p. absurd (none-some (sym (opened-rested o .idle) ∙ p))) (k .w) (k .held) in
-        subst (Pending o cs) (k .tuning)
-        (own .called (omega (arith, own .due, g .valid .waiting (k .w) (k .held) .taken)))
-
-    waiting : Pending o cs t → Awaited (after o cs .voice) t
-    waiting k =
-        go (rw (after-split o (k .pre) (k .post) (k .c) (k .split))
-        (held-from t (k .e) (k .post) (call (after o (k .pre)) (k .c))
-        (held-call (after o (k .pre)) (k .change))))
-      where
-        go : Held t (k .e) (after o cs) → Awaited (after o cs .voice) t
-        go (gone l) = absurd (omega (arith, k .ahead))
-        go (still w p q i) = record { w = w; held = p; tuning = q }
+pub waits : (o : Opening) (cs : List Call) → Waits o cs
+waits o cs k t = (
+  λ a. pending o cs k t (a .w) (a .held) (a .kind) (rw (a .kind, a .tuning) at (owned o cs (a .w) (a .held))),
+  waiting o cs,
+)

@@ -27,7 +27,7 @@ module _ (P : History → Type 0) (stepping : (h : History) (x : ℤ) → P h �
   from-keeps f [] h p = p
   from-keeps f (c ∷ cs) h p = from-keeps f cs (call h c) (call-keeps h c (λ e. f h c e p) p)
 
-from-append : (p q : List Call) (h : History) → from h (p ++ q) ≡ from (from h p) q
+pub from-append : (p q : List Call) (h : History) → from h (p ++ q) ≡ from (from h p) q
 from-append [] q h = refl
 from-append (c ∷ p) q h = from-append p q (call h c)
 

@@ -2,15 +2,16 @@
 -- Definitions alone. Assumes nothing.
 use mathlib.Core.Bool.{cond}
 use mathlib.Core.List.{List, [], _∷_}
-use mathlib.Core.Option.{none, some}
+use mathlib.Core.Option.{Option, none, some}
 use Prim.Native.Nat.{ℕ, zero, suc, _+_}
 use lib.Dec.{eqb}
 use lib.IntN.{ℤ, pos}
 use Rattle.refusal.specs.Limits.{Limit, refusal}
 use Rattle.refusal.specs.Orders.{order, delay}
 use Rattle.allpass.specs.Allpass.{run}
-use Rattle.rule.specs.Tests.{long, lossy, early, idle, strong, lasting, matched, loud}
-use Rattle.rule.specs.Voice.{Tuning, Pluck, Voice, A, rest, silent, settled, tuned}
+use Rattle.rule.specs.Tests.{long, lossy, early, idle, asking, ready, strong, lasting, matched, loud}
+use Rattle.rule.specs.Voice.{Tuning, Kind, announced, asked, Waiting, Pluck, Voice, A, rest, silent}
+use Rattle.rule.specs.Voice.{settled, tuned}
 
 -- "Calls take samples as 32-bit signed numbers, all else as 32-bit unsigned"; here no value is too large
 pub data Call : Type 0 where
@@ -19,9 +20,17 @@ pub data Call : Type 0 where
   loss : ℕ → Call
   -- amplitude, count, seed
   pluck : ℕ → ℕ → ℕ → Call
-  -- L' and d'
-  announce : ℕ → ℕ → Call
+  -- a change to L' and d', whose eliminator runs first and waits: announced, or asked for (L3)
+  prepare : Kind → ℕ → ℕ → Call
   instant : ℕ → ℕ → Call
+  commit : Call
+  withdraw : Call
+
+abbrev pub announce : ℕ → ℕ → Call
+announce = prepare announced
+
+abbrev pub ask : ℕ → ℕ → Call
+ask = prepare asked
 
 pub record Opening : Type 0 where
   pub N : ℕ
@@ -35,17 +44,20 @@ pub record Opening : Type 0 where
 abbrev pub openLimits : Opening → List Limit
 openLimits o = order (o .N) ∷ long (o .L) ∷ delay (o .N) (o .d) ∷ lossy (o .G) ∷ early (o .Na) ∷ []
 
--- "Announced and instant change: 2, 3, then 6"
+-- "Announced and instant change: 2, 3, then 6"; L3: "Asking tests what a change tests"
 abbrev pub changeLimits : Voice → ℕ → ℕ → List Limit
 changeLimits v L d = long L ∷ delay (v .tuning .N) d ∷ idle (v .waiting) ∷ []
 
--- "Loss: 4"
+-- "Loss: 4"; L3: "20 commit before Na samples were taken; 21 commit or withdraw with nothing asked; 21 is
+-- tested first"
 abbrev pub limits : Voice → Call → List Limit
 limits v (block xs n) = matched xs n ∷ loud xs ∷ []
 limits v (loss G) = lossy G ∷ []
 limits v (pluck a n z) = strong a ∷ lasting n ∷ []
-limits v (announce L d) = changeLimits v L d
+limits v (prepare k L d) = changeLimits v L d
 limits v (instant L d) = changeLimits v L d
+limits v commit = asking (v .waiting) ∷ ready (v .Na) (v .waiting) ∷ []
+limits v withdraw = asking (v .waiting) ∷ []
 
 -- the number that a call returns
 unfoldable pub number : Voice → Call → ℕ
@@ -84,35 +96,53 @@ played v G p = record {
   pluck = p;
 }
 
--- "An announced change starts its eliminator at rest; with Na = 0 it takes effect in the call, from rest,
--- and never waits"
-abbrev pub announced : Voice → Tuning → Voice
-announced v t = settled v (some (record { tuning = t; taken = 0; state = rest t }))
+-- "An announced change starts its eliminator at rest"; L3: "Asking starts the eliminator"
+abbrev pub start : Kind → Tuning → Waiting
+start k t = record { kind = k; tuning = t; taken = 0; state = rest t }
+
+-- "with Na = 0 it takes effect in the call, from rest, and never waits"; L3: an ask "waits even with Na 0"
+abbrev pub prepared : Voice → Kind → Tuning → Voice
+prepared v k t = settled v (some (start k t))
 
 -- "An instant change before step n runs a resting eliminator over s(k − L') for k = n − Na to n − 1,
 -- then replaces L, d and the state"
 abbrev pub retuned : Voice → (ℕ → ℤ) → Tuning → Voice
 retuned v r t = tuned v t (run (A t) (rest t) (window r (t .L) (v .Na))) none
 
+-- L3: "committing switches before the next sample"
+abbrev pub committed : Voice → Option Waiting → Voice
+committed v none = v
+committed v (some w) = tuned v (w .tuning) (w .state) none
+
+-- L3: "withdrawing drops it"
+abbrev pub withdrawn : Voice → Voice
+withdrawn v = tuned v (v .tuning) (v .state) none
+
 unfoldable pub done : Voice → (ℕ → ℤ) → Call → Voice
 done v r (block xs n) = v
 done v r (loss G) = played v G (v .pluck)
 done v r (pluck a n z) = played v (v .G) (record { amplitude = a; left = n; noise = z })
-done v r (announce L d) = announced v (to v L d)
+done v r (prepare k L d) = prepared v k (to v L d)
 done v r (instant L d) = retuned v r (to v L d)
+done v r commit = committed v (v .waiting)
+done v r withdraw = withdrawn v
 
 -- "an accepted block of b samples is b steps, every other call .. none"
 abbrev pub inputs : Call → List ℤ
 inputs (block xs n) = xs
 inputs (loss G) = []
 inputs (pluck a n z) = []
-inputs (announce L d) = []
+inputs (prepare k L d) = []
 inputs (instant L d) = []
+inputs commit = []
+inputs withdraw = []
 
 -- "it also returns the number of samples run, which is Na"; "the instant change counts 0" where it is refused
 unfoldable pub count : Voice → Call → ℕ
 count v (block xs n) = 0
 count v (loss G) = 0
 count v (pluck a n z) = 0
-count v (announce L d) = 0
+count v (prepare k L d) = 0
 count v (instant L d) = cond (eqb (number v (instant L d)) 0) (v .Na) 0
+count v commit = 0
+count v withdraw = 0

@@ -3,12 +3,13 @@
 use mathlib.Core.Path.{_≡_}
 use mathlib.Core.Bool.{cond}
 use mathlib.Core.List.{List, [], _∷_, _++_}
+use mathlib.Core.Option.{some}
 use Prim.Native.Nat.{ℕ, _+_, _*_, _-_, _/_, _^_, _≤_, _<_}
 use lib.Dec.{leb}
 use lib.IntN.{ℤ, pos, natAbs, _-ℤ_}
 use lib.ListN.{getD}
-use Rattle.rule.specs.Voice.{Tuning}
-use Rattle.rule.specs.Calls.{Call, announce, instant, Opening, number, to}
+use Rattle.rule.specs.Voice.{Tuning, Waiting}
+use Rattle.rule.specs.Calls.{Call, announce, instant, commit, Opening, number, to}
 use Rattle.rule.specs.History.{History, steps, read, call, after, new}
 use Rattle.rule.specs.State.{fresh, puts}
 
@@ -20,10 +21,14 @@ figure k = cond (leb k 23) (3 * 2 ^ (23 - k)) 2
 -- and c if it is instant": the call c at h is a change to the tuning t, whose second copy takes a samples
 -- and so "begins at step e − Na"
 pub data Change (h : History) : Call → Tuning → ℕ → ℕ → Type 0 where
-  announced : {L d : ℕ} → number (h .voice) (announce L d) ≡ 0
+  announcing : {L d : ℕ} → number (h .voice) (announce L d) ≡ 0
       → Change h (announce L d) (to (h .voice) L d) (h .voice .Na) (steps h + h .voice .Na)
   instantly : {L d : ℕ} → number (h .voice) (instant L d) ≡ 0
       → Change h (instant L d) (to (h .voice) L d) (h .voice .Na) (steps h)
+  -- L3: "the number of samples the eliminator actually took, those put out between asking and committing, in
+  -- place of Na"
+  committing : {w : Waiting} → number (h .voice) commit ≡ 0 → h .voice .waiting ≡ some w
+      → Change h commit (w .tuning) (steps h - h .began) (steps h)
 
 -- "before a later one does": no change among the calls cs, made from h on, takes effect at step m or before.
 -- "Where two have the same e, the one called later is in force": an equal e ends the claim of the earlier

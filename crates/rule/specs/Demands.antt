@@ -2,39 +2,57 @@
 -- Statements alone: proofs/ proves each for every opening and list. Assumes nothing.
 use mathlib.Core.Path.{_≡_}
 use mathlib.Core.Logic.{_↔_}
-use mathlib.Core.List.{List, _∷_, _++_, reverse}
+use mathlib.Core.List.{List, [], _∷_, _++_, reverse}
 use mathlib.Core.Option.{none, some}
-use Prim.Native.Nat.{ℕ, suc, _≤_, _<_}
+use Prim.Native.Nat.{ℕ, suc, _+_, _-_, _≤_, _<_, min}
 use lib.IntN.{ℤ, pos, _+ℤ_, _*ℤ_}
 use lib.ListN.{length, take, getD}
 use Rattle.integer.specs.Rounding.{clip, floor}
 use Rattle.allpass.specs.Allpass.{next, out}
-use Rattle.rule.specs.Voice.{Tuning, Waiting, Voice, A, noise, spent}
-use Rattle.rule.specs.Calls.{Call, Opening, opened}
+use Rattle.rule.specs.Voice.{Tuning, Kind, announced, asked, Waiting, Voice, A, noise, spent}
+use Rattle.rule.specs.Calls.{Call, block, loss, pluck, announce, ask, prepare, instant, commit, withdraw}
+use Rattle.rule.specs.Calls.{Opening, number, to, opened}
 use Rattle.rule.specs.History.{History, read, steps, ago, step, call, from, fresh, after, new}
 use Rattle.rule.specs.State as S
 use Rattle.rule.specs.State.{silence, puts}
 use Rattle.rule.specs.Click.{Change, NoneBy, Figure}
 use Rattle.rule.specs.Keeps.{InForce}
 
--- ---- "a change waits": it is the accepted one that has not taken effect yet, and there is such a one
-pub record Awaited (v : Voice) (t : Tuning) : Type 0 where
+-- ---- "a change waits": an accepted announced one that has not taken effect yet, or an accepted ask that was
+-- neither committed nor withdrawn; and it is that one
+pub record Awaited (v : Voice) (k : Kind) (t : Tuning) : Type 0 where
   pub w : Waiting
   pub held : v .waiting ≡ some w
+  pub kind : w .kind ≡ k
   pub tuning : w .tuning ≡ t
 
-pub record Pending (o : Opening) (cs : List Call) (t : Tuning) : Type 0 where
-  pub pre : List Call
-  pub post : List Call
-  pub c : Call
-  pub a : ℕ
-  pub e : ℕ
-  pub split : cs ≡ pre ++ c ∷ post
-  pub change : Change (after o pre) c t a e
-  pub ahead : steps (after o cs) < e
+-- the calls that end an ask
+abbrev pub Ends : Call → Type 0
+Ends (block xs n) = ⊥
+Ends (loss G) = ⊥
+Ends (pluck a n z) = ⊥
+Ends (prepare k L d) = ⊥
+Ends (instant L d) = ⊥
+Ends commit = Unit {0}
+Ends withdraw = Unit {0}
+
+-- no commit and no withdrawal among the calls cs, made from h on, is accepted
+abbrev pub Kept : History → List Call → Type 0
+Kept h [] = Unit {0}
+Kept h (c ∷ cs) = (Ends c → number (h .voice) c ≡ 0 → ⊥) × Kept (call h c) cs
+
+pub data Pending (o : Opening) (cs : List Call) : Kind → Tuning → Type 0 where
+  announcement : (pre post : List Call) {L d : ℕ} → cs ≡ pre ++ announce L d ∷ post
+      → number (after o pre .voice) (announce L d) ≡ 0
+      → steps (after o cs) < steps (after o pre) + after o pre .voice .Na
+      → Pending o cs announced (to (after o pre .voice) L d)
+  request : (pre post : List Call) {L d : ℕ} → cs ≡ pre ++ ask L d ∷ post
+      → number (after o pre .voice) (ask L d) ≡ 0
+      → Kept (call (after o pre) (ask L d)) post
+      → Pending o cs asked (to (after o pre .voice) L d)
 
 abbrev pub Waits : Opening → List Call → Type 0
-Waits o cs = (t : Tuning) → Awaited (after o cs .voice) t ↔ Pending o cs t
+Waits o cs = (k : Kind) (t : Tuning) → Awaited (after o cs .voice) k t ↔ Pending o cs k t
 
 -- ---- demand 2: what the calls leave and put out is what the history yields
 -- the newest 2,112 samples, newest first, with zeros from before opening
@@ -89,12 +107,17 @@ module _ (h : History) (x : ℤ) where
     pub last : u .last ≡ y n
     pub pluck : u .pluck ≡ spent (v .pluck)
     pub idle : v .waiting ≡ none → InForce u (v .tuning) filtered none
-    -- "2. If a change to L', d' waits, its eliminator takes s(n − L')"
-    pub waits : (w : Waiting) → v .waiting ≡ some w → (suc (w .taken) ≡ v .Na → ⊥)
+    -- "2. If a change to L', d' waits, its eliminator takes s(n − L')"; L3: it "keeps running"
+    pub waits : (w : Waiting) → v .waiting ≡ some w → (w .kind ≡ announced → suc (w .taken) ≡ v .Na → ⊥)
         → InForce u (v .tuning) filtered
-        (some (record { tuning = w .tuning; taken = suc (w .taken); state = eliminated w }))
+        (some (record {
+          kind = w .kind;
+          tuning = w .tuning;
+          taken = min (suc (w .taken)) (v .Na);
+          state = eliminated w;
+        }))
     -- "4. .. If the eliminator has now taken Na samples, L', d' and its state replace the voice's"
-    pub switches : (w : Waiting) → v .waiting ≡ some w → suc (w .taken) ≡ v .Na
+    pub switches : (w : Waiting) → v .waiting ≡ some w → w .kind ≡ announced → suc (w .taken) ≡ v .Na
         → InForce u (w .tuning) (eliminated w) none
 
 -- ---- demand 3 speaks of every sample that a list puts out

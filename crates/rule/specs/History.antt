@@ -8,7 +8,8 @@ use lib.IntN.{ℤ, pos}
 use lib.ListN.{length, getD}
 use Rattle.allpass.specs.Allpass.{next, out}
 use Rattle.rule.specs.Voice.{Tuning, Voice, A, rest, output, written, stepped}
-use Rattle.rule.specs.Calls.{Call, Opening, number, done, inputs, opened}
+use Rattle.rule.specs.Calls.{Call, block, loss, pluck, prepare, instant, commit, withdraw, Opening}
+use Rattle.rule.specs.Calls.{number, done, inputs, opened}
 
 -- "s(n) is the sample written to the line at step n; before opening it is 0": s(m − L)
 unfoldable pub read : List ℤ → ℕ → ℕ → ℤ
@@ -16,6 +17,8 @@ read s m L = cond (leb L m) (getD s (m - L) (pos 0)) (pos 0)
 
 pub record History : Type 0 where
   pub voice : Voice
+  -- the step before which the newest announced or asked change was called
+  pub began : ℕ
   pub s : List ℤ
   pub y : List ℤ
 
@@ -30,6 +33,7 @@ ago h = read (h .s) (steps h)
 unfoldable pub step : History → ℤ → History
 step h x = record {
   voice = stepped (h .voice) (ago h);
+  began = h .began;
   s = h .s ++ (written (h .voice) (ago h) x ∷ []);
   y = h .y ++ (output (h .voice) (ago h) ∷ []);
 }
@@ -38,9 +42,18 @@ abbrev pub through : History → List ℤ → History
 through h [] = h
 through h (x ∷ xs) = through (step h x) xs
 
+abbrev pub begun : History → Call → ℕ
+begun h (block xs n) = h .began
+begun h (loss G) = h .began
+begun h (pluck a n z) = h .began
+begun h (prepare k L d) = steps h
+begun h (instant L d) = h .began
+begun h commit = h .began
+begun h withdraw = h .began
+
 -- what a call does at once
 abbrev pub told : History → Call → History
-told h c = record { voice = done (h .voice) (ago h) c; s = h .s; y = h .y }
+told h c = record { voice = done (h .voice) (ago h) c; began = begun h c; s = h .s; y = h .y }
 
 unfoldable pub call : History → Call → History
 call h c = cond (eqb (number (h .voice) c) 0) (through (told h c) (inputs c)) h
@@ -51,7 +64,7 @@ from h (c ∷ cs) = from (call h c) cs
 
 -- "Freshly opened is a voice as Open returns it, by a refusal too"
 abbrev pub fresh : Opening → History
-fresh o = record { voice = opened o; s = []; y = [] }
+fresh o = record { voice = opened o; began = 0; s = []; y = [] }
 
 abbrev pub after : Opening → List Call → History
 after o cs = from (fresh o) cs

@@ -7,9 +7,9 @@ use Prim.Native.Nat.{ℕ, _+_, _<_}
 use lib.IntN.{ℤ}
 use lib.ListN.{length}
 use Rattle.allpass.specs.Allpass.{run}
-use Rattle.rule.specs.Voice.{Tuning, Waiting, Voice, A, rest}
+use Rattle.rule.specs.Voice.{Tuning, Kind, announced, asked, Waiting, Voice, A, rest}
 use Rattle.rule.specs.History.{History, steps, through, call}
-use Rattle.rule.specs.Calls.{Call, block, loss, pluck, announce, instant}
+use Rattle.rule.specs.Calls.{Call, block, loss, pluck, announce, ask, prepare, instant, commit, withdraw}
 use Rattle.rule.specs.Calls.{number, done, count, to, window}
 
 -- in u the tuning t is in force, with the filter state q, and w waits
@@ -54,10 +54,20 @@ pub record Keeps (v : Voice) (r : ℕ → ℤ) : Type 0 where
   -- an announced change leaves the filter in force, and waits at rest; with Na 0 it takes effect, from rest
   pub announce-waits : (L d : ℕ) → 0 < v .Na
       → InForce (done v r (announce L d)) (v .tuning) (v .state)
-      (some (record { tuning = to v L d; taken = 0; state = rest (to v L d) }))
+      (some (record { kind = announced; tuning = to v L d; taken = 0; state = rest (to v L d) }))
   pub announce-now : (L d : ℕ) → v .Na ≡ 0
       → InForce (done v r (announce L d)) (to v L d) (rest (to v L d)) none
-  pub announce-rest : (L d : ℕ) → Retuned v (done v r (announce L d))
+  -- L3: one that is asked for "waits even with Na 0"
+  pub ask-waits : (L d : ℕ)
+      → InForce (done v r (ask L d)) (v .tuning) (v .state)
+      (some (record { kind = asked; tuning = to v L d; taken = 0; state = rest (to v L d) }))
+  pub prepare-rest : (k : Kind) (L d : ℕ) → Retuned v (done v r (prepare k L d))
+  -- L3: "committing switches before the next sample; withdrawing drops it"
+  pub commit-now : (w : Waiting) → v .waiting ≡ some w
+      → InForce (done v r commit) (w .tuning) (w .state) none
+  pub commit-rest : Retuned v (done v r commit)
+  pub withdraw-drops : InForce (done v r withdraw) (v .tuning) (v .state) none
+  pub withdraw-rest : Retuned v (done v r withdraw)
   -- an instant change is in force, from the run of a resting eliminator over the last Na reads
   pub instant-now : (L d : ℕ)
       → InForce (done v r (instant L d)) (to v L d)
@@ -80,6 +90,8 @@ pub record Counts (h : History) : Type 0 where
       → steps (call h (block xs n)) ≡ steps h + length xs
   pub loss-none : (G : ℕ) → NoStep h (call h (loss G))
   pub pluck-none : (a n z : ℕ) → NoStep h (call h (pluck a n z))
-  pub announce-none : (L d : ℕ) → NoStep h (call h (announce L d))
+  pub prepare-none : (k : Kind) (L d : ℕ) → NoStep h (call h (prepare k L d))
   pub instant-none : (L d : ℕ) → NoStep h (call h (instant L d))
+  pub commit-none : NoStep h (call h commit)
+  pub withdraw-none : NoStep h (call h withdraw)
   pub refused-none : (c : Call) → (number (h .voice) c ≡ 0 → ⊥) → call h c ≡ h

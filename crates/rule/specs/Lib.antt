@@ -9,4 +9,5 @@ pub mod Keeps
 pub mod Plucks
 pub mod Click
 pub mod Demands
+pub mod Asked
 pub mod Literals

@@ -11,7 +11,7 @@ use Rattle.rule.specs.State.{puts}
 use Rattle.rule.specs.State as S
 use Rattle.rule.specs.Demands.{Rules}
 
--- a change in order N with advance Na: each sample that comes j or more samples after it took effect, while
+-- a change in order N whose eliminator took Na samples: each sample that comes j or more samples after it took effect, while
 -- it is in force, differs from the new filter's by at most B
 abbrev pub Differs : Opening → List Call → ℕ → ℕ → ℕ → ℕ → Type 0
 Differs o cs N Na j B =
@@ -23,6 +23,9 @@ pub record Literals (o : Opening) (cs : List Call) : Type 0 where
   -- Na 64, the most there is: at most 2, in either order
   pub order-1-na-64 : Differs o cs 1 64 0 2
   pub order-2-na-64 : Differs o cs 2 64 0 2
+  -- L3: a commit 100 samples after its ask
+  pub order-1-after-100 : Differs o cs 1 100 0 2
+  pub order-2-after-47 : Differs o cs 2 47 0 3
   -- order 1
   pub order-1-na-24 : Differs o cs 1 24 0 2
   pub order-1-na-23 : Differs o cs 1 23 0 3

@@ -3,16 +3,16 @@
 use mathlib.Core.Path.{_≡_}
 use mathlib.Core.Logic.{_↔_}
 use mathlib.Core.List.{List, []}
-use mathlib.Core.Option.{none}
-use Prim.Native.Nat.{ℕ}
+use mathlib.Core.Option.{none, some}
+use Prim.Native.Nat.{ℕ, _≤_, _<_}
 use lib.IntN.{ℤ, pos}
 use lib.ListN.{length, replicate}
 use Rattle.integer.specs.Rounding.{M}
 use Rattle.refusal.specs.Limits.{Between, refusal}
 use Rattle.refusal.specs.Orders.{orders, lowest, highest}
 use Rattle.allpass.specs.Bounds.{Within}
-use Rattle.rule.specs.Voice.{Voice}
-use Rattle.rule.specs.Calls.{Call, block, loss, pluck, announce, instant, Opening}
+use Rattle.rule.specs.Voice.{Kind, asked, Waiting, Voice}
+use Rattle.rule.specs.Calls.{Call, block, loss, pluck, prepare, instant, commit, withdraw, Opening}
 use Rattle.rule.specs.Calls.{openLimits, number, opened, count}
 use Rattle.rule.specs.State.{State, call, put}
 
@@ -36,12 +36,33 @@ pub record OpenReturns (N L d G Na n : ℕ) : Type 0 where
   pub advance : (n ≡ 5) ↔ (Ordered N × (Long L × (Delayed N d × (Between 0 G 65535 × (Between 0 Na 64 → ⊥)))))
   pub accepted : (n ≡ 0) ↔ (Ordered N × (Long L × (Delayed N d × (Between 0 G 65535 × Between 0 Na 64))))
 
--- "Announced and instant change: 2, 3, then 6 a change waits"
+-- "Announced and instant change: 2, 3, then 6 a change waits"; L3: "Asking tests what a change tests"; "A change
+-- that was asked for counts as waiting"
 pub record ChangeReturns (v : Voice) (L d n : ℕ) : Type 0 where
   pub length : (n ≡ 2) ↔ (Long L → ⊥)
   pub delay : (n ≡ 3) ↔ (Long L × (Delayed (v .tuning .N) d → ⊥))
   pub waits : (n ≡ 6) ↔ (Long L × (Delayed (v .tuning .N) d × (v .waiting ≡ none → ⊥)))
   pub accepted : (n ≡ 0) ↔ (Long L × (Delayed (v .tuning .N) d × (v .waiting ≡ none)))
+
+-- L3: a change that was asked for waits in v; P is said of how many samples it has taken
+pub record Asked (v : Voice) (P : ℕ → Type 0) : Type 0 where
+  pub w : Waiting
+  pub held : v .waiting ≡ some w
+  pub kind : w .kind ≡ asked
+  pub taken : P (w .taken)
+
+abbrev pub Any : ℕ → Type 0
+Any k = Unit {0}
+
+-- L3: "20 commit before Na samples were taken; 21 commit or withdraw with nothing asked; 21 is tested first"
+pub record CommitReturns (v : Voice) (n : ℕ) : Type 0 where
+  pub nothing : (n ≡ 21) ↔ (Asked v Any → ⊥)
+  pub before : (n ≡ 20) ↔ Asked v (λ k. k < v .Na)
+  pub accepted : (n ≡ 0) ↔ Asked v (λ k. v .Na ≤ k)
+
+pub record WithdrawReturns (v : Voice) (n : ℕ) : Type 0 where
+  pub nothing : (n ≡ 21) ↔ (Asked v Any → ⊥)
+  pub accepted : (n ≡ 0) ↔ Asked v Any
 
 -- "Loss: 4."
 pub record LossReturns (G n : ℕ) : Type 0 where
@@ -73,8 +94,10 @@ pub record Resting (N L d G Na : ℕ) (v : Voice) : Type 0 where
 
 pub record Refuses : Type 0 where
   pub opens : (o : Opening) → OpenReturns (o .N) (o .L) (o .d) (o .G) (o .Na) (refusal (openLimits o))
-  pub announces : (v : Voice) (L d : ℕ) → ChangeReturns v L d (number v (announce L d))
+  pub prepares : (v : Voice) (k : Kind) (L d : ℕ) → ChangeReturns v L d (number v (prepare k L d))
   pub instants : (v : Voice) (L d : ℕ) → ChangeReturns v L d (number v (instant L d))
+  pub commits : (v : Voice) → CommitReturns v (number v commit)
+  pub withdraws : (v : Voice) → WithdrawReturns v (number v withdraw)
   pub losses : (v : Voice) (G : ℕ) → LossReturns G (number v (loss G))
   pub plucks : (v : Voice) (a k z : ℕ) → PluckReturns a k (number v (pluck a k z))
   pub blocks : (v : Voice) (xs : List ℤ) (n : ℕ) → BlockReturns xs n (number v (block xs n))

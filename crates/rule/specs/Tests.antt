@@ -9,7 +9,7 @@ use Rattle.integer.specs.Rounding.{M}
 use Rattle.refusal.specs.Limits.{Limit}
 use Rattle.refusal.specs.Orders.{longest, most-loss, most-advance}
 use Rattle.samples.specs.Samples.{loudest}
-use Rattle.rule.specs.Voice.{Waiting}
+use Rattle.rule.specs.Voice.{Kind, announced, asked, Waiting}
 
 -- "2 L, .. 4 G, 5 Na outside the limits": L 1 to 2,048, G 0 to 65,535, Na 0 to 64
 abbrev pub long : ℕ → Limit
@@ -28,6 +28,27 @@ waitings (some w) = 1
 
 abbrev pub idle : Option Waiting → Limit
 idle w = record { number = 6; low = 0; value = waitings w; high = 0 }
+
+-- L3: "21 commit or withdraw with nothing asked": as many as were asked for; "to commit and withdraw" an
+-- announced change "counts as nothing asked"
+abbrev pub askings : Kind → ℕ
+askings announced = 0
+askings asked = 1
+
+abbrev pub asks : Option Waiting → ℕ
+asks none = 0
+asks (some w) = askings (w .kind)
+
+abbrev pub asking : Option Waiting → Limit
+asking w = record { number = 21; low = 1; value = asks w; high = 1 }
+
+-- L3: "20 commit before Na samples were taken"
+abbrev pub takings : Option Waiting → ℕ
+takings none = 0
+takings (some w) = w .taken
+
+abbrev pub ready : ℕ → Option Waiting → Limit
+ready Na w = record { number = 20; low = Na; value = takings w; high = takings w }
 
 -- "Pluck: 7 amplitude above 255, 8 count 0 or above 2,048"
 abbrev pub strong : ℕ → Limit

@@ -9,7 +9,7 @@ use lib.ListN.{length}
 use Rattle.integer.specs.Rounding.{M}
 use Rattle.refusal.specs.Orders.{longest, most-loss, most-advance, Takes}
 use Rattle.allpass.specs.Bounds.{Within}
-use Rattle.rule.specs.Voice.{Tuning, Waiting, Pluck, Voice, silent}
+use Rattle.rule.specs.Voice.{Tuning, announced, Waiting, Pluck, Voice, silent}
 use Rattle.rule.specs.State.{State}
 
 -- "A voice has N, a length L (1 to 2,048), d"
@@ -23,10 +23,12 @@ pub record Filled (N : ℕ) (v : List ℤ) : Type 0 where
   pub many : length v ≡ N
   pub within : Within (2 * M) v
 
--- what waits in a voice of advance Na: with Na samples taken it would be in force
+-- what waits in a voice of advance Na: samples are counted up to Na, and with that many taken an announced
+-- change would be in force
 pub record Coming (Na : ℕ) (w : Waiting) : Type 0 where
   pub fit : Tunable (w .tuning)
-  pub taken : w .taken < Na
+  pub counted : w .taken ≤ Na
+  pub early : w .kind ≡ announced → w .taken < Na
   pub state : Filled (w .tuning .N) (w .state)
 
 -- "the rest of a pluck": all 0 where no step is left

@@ -1,9 +1,9 @@
 -- A voice but for its line, and what one sample does to it: document 01, "One sample of the voice". `r` reads
 -- the samples written so far: `r k` is s(n − k), before step n. Definitions alone. Assumes nothing.
-use mathlib.Core.Bool.{cond}
+use mathlib.Core.Bool.{Bool, false, cond}
 use mathlib.Core.List.{List}
 use mathlib.Core.Option.{Option, none, some}
-use Prim.Native.Nat.{ℕ, suc, _-_}
+use Prim.Native.Nat.{ℕ, suc, _-_, min}
 use lib.Dec.{leb, eqb}
 use lib.IntN.{ℤ, pos, _+ℤ_, _*ℤ_}
 use Rattle.integer.specs.Rounding.{clip, Q}
@@ -18,8 +18,14 @@ pub record Tuning : Type 0 where
   pub L : ℕ
   pub d : ℕ
 
--- a waiting change: its eliminator's tuning, how many samples it has taken, and its state
+-- L3: a change waits as an announced one, or as one that was asked for
+pub data Kind : Type 0 where
+  announced : Kind
+  asked : Kind
+
+-- a waiting change: its eliminator's tuning, how many samples it has taken, counted up to Na, and its state
 pub record Waiting : Type 0 where
+  pub kind : Kind
   pub tuning : Tuning
   pub taken : ℕ
   pub state : List ℤ
@@ -66,17 +72,18 @@ spent p =
 unfoldable pub output : Voice → (ℕ → ℤ) → ℤ
 output v r = out (A (v .tuning)) (v .state) (r (v .tuning .L))
 
--- "2. If a change to L', d' waits, its eliminator takes s(n − L')"
-abbrev pub fed : Waiting → (ℕ → ℤ) → Waiting
-fed w r = record {
+-- "2. If a change to L', d' waits, its eliminator takes s(n − L')"; L3: it "keeps running", past Na too
+abbrev pub fed : ℕ → Waiting → (ℕ → ℤ) → Waiting
+fed Na w r = record {
+  kind = w .kind;
   tuning = w .tuning;
-  taken = suc (w .taken);
+  taken = min (suc (w .taken)) Na;
   state = next (A (w .tuning)) (w .state) (r (w .tuning .L));
 }
 
-abbrev pub fedToo : Option Waiting → (ℕ → ℤ) → Option Waiting
-fedToo none r = none
-fedToo (some w) r = some (fed w r)
+abbrev pub fedToo : ℕ → Option Waiting → (ℕ → ℤ) → Option Waiting
+fedToo Na none r = none
+fedToo Na (some w) r = some (fed Na w r)
 
 -- "3. s(n) = clip(p(n) + floor((G·(y(n) + y(n − 1)) + 65,536)/131,072))": p(n) is the input plus the noise,
 -- and Q is the loop's division
@@ -101,12 +108,18 @@ abbrev pub tuned : Voice → Tuning → List ℤ → Option Waiting → Voice
 tuned v t q w =
     record { tuning = t; G = v .G; Na = v .Na; state = q; last = v .last; waiting = w; pluck = v .pluck }
 
--- "4. .. If the eliminator has now taken Na samples, L', d' and its state replace the voice's"
+-- "4. .. If the eliminator has now taken Na samples"; L3: "An announced change acts as an ask that commits
+-- itself"
+abbrev pub commits : Kind → ℕ → ℕ → Bool
+commits announced taken Na = eqb taken Na
+commits asked taken Na = false
+
+-- "L', d' and its state replace the voice's"
 unfoldable pub settled : Voice → Option Waiting → Voice
 settled v none = v
 settled v (some w) =
-    cond (eqb (w .taken) (v .Na)) (tuned v (w .tuning) (w .state) none)
+    cond (commits (w .kind) (w .taken) (v .Na)) (tuned v (w .tuning) (w .state) none)
     (tuned v (v .tuning) (v .state) (some w))
 
 unfoldable pub stepped : Voice → (ℕ → ℤ) → Voice
-stepped v r = settled (heard v r) (fedToo (v .waiting) r)
+stepped v r = settled (heard v r) (fedToo (v .Na) (v .waiting) r)

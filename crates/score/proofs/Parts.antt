@@ -8,6 +8,7 @@ use native.Mathlib.Omega.{arith}
 use borrow.Author.Tests.{eq-eqb, ne-eqb}
 use lib.Dec.{eqb}
 use Rattle.rule.specs.Calls.{Call, loss, pluck, announce, instant, number}
+use Rattle.rule.specs.Voice as Waiting
 use Rattle.rule.specs.State.{State, call, from}
 use Rattle.rule.specs.Refusals.{ChangeReturns}
 use Rattle.rule.proofs.Refusals.{refuses}
@@ -15,7 +16,8 @@ use Rattle.record.specs.Record.{bit, mapOf, field, read}
 use Rattle.record.proofs.Returns.{down, stands}
 use Rattle.follow.specs.Follow.{lossCalls, lengthTo, delayTo, change, changeCalls, countOf}
 use Rattle.follow.specs.Follow.{pluckCalls, result, then}
-use Rattle.follow.proofs.Sequence.{from-append, result-past, result-one, then-past, then-stops}
+use Rattle.rule.proofs.Puts.{from-append}
+use Rattle.follow.proofs.Sequence.{result-past, result-one, then-past, then-stops}
 use Rattle.score.specs.Reached.{Has, Lacks, SetsLoss, as-it-was, set, Given, present, absent}
 use Rattle.score.specs.Reached.{AsksChange, Kind, announced, instantly, MakesChange, no-change}
 use Rattle.score.specs.Reached.{changed}
@@ -123,7 +125,7 @@ module _ (t : List ℕ) where
 
   returns : (v : State) (L d : ℕ) {c : Call} → Kind t L d c
       → ChangeReturns (v .voice) L d (number (v .voice) c)
-  returns v L d (announced e i) = rw i (refuses .announces (v .voice) L d)
+  returns v L d (announced e i) = rw i (refuses .prepares (v .voice) Waiting.announced L d)
   returns v L d (instantly e i) = rw i (refuses .instants (v .voice) L d)
 
   pub makes-change : {v u : State} → MakesChange t v u → Yields v (changeCalls r v) 0 u

@@ -17,7 +17,7 @@ use Rattle.score.specs.Run.{ends, joined, playLimits, records, allRecord
 use Rattle.samples.specs.Samples.{over}
 use Rattle.score.specs.Played.{Plays}
 use Rattle.record.proofs.Reading.{taken-rest}
-use Rattle.follow.proofs.Sequence.{from-append, puts-append}
+use Rattle.rule.proofs.Puts.{from-append, puts-append}
 use Rattle.rule.proofs.Puts.{length-out}
 use Rattle.follow.proofs.Waits.{record-puts}
 use Rattle.score.proofs.Playing.{Playing, has-room, later, opens, played-stops, played-all, plays-as}

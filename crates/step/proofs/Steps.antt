@@ -14,7 +14,7 @@ use Rattle.rule.specs.State as Rule
 use Rattle.rule.specs.State.{back}
 use Rattle.rule.proofs.States.{take-within, same-state}
 use Rattle.voice.specs.declared.Waiting.{Waiting}
-use Rattle.voice.specs.declared.Waiting.the-variants.{Idle, Announced}
+use Rattle.voice.specs.declared.Waiting.the-variants.{Idle, Prepared}
 use Rattle.voice.specs.declared.Pluck.{Pluck}
 use Rattle.voice.specs.declared.Head.{Head}
 use Rattle.step.specs.declared.sound.Sounded.{Sounded}
@@ -27,7 +27,7 @@ use Rattle.step.specs.Sample.{Reads, previewed, Sounds, Settles, Circula
 previewed-within : (N a : ℕ) (w : Waiting) (L : ℕ) → Waiting-valid N a w → 1 ≤ L → L ≤ 2048
     → (1 ≤ previewed w L) × (previewed w L ≤ 2048)
 previewed-within N a Idle L v h k = (h, k)
-previewed-within N a (Announced e n) L v h k = (v .tuned .short, v .tuned .long)
+previewed-within N a (Prepared i e n) L v h k = (v .tuned .short, v .tuned .long)
 
 -- m is what `preview` returns
 pub preview-within : {h : Head} {m : ℕ} → Fit h → m ≡ previewed (h .waiting) (h .filter .tuning .length)
@@ -40,7 +40,7 @@ preview-within {h} f e =
 
 reads-at : (w : Waiting) (L : ℕ) (q : ℕ → ℤ) {g : ℤ} → q (previewed w L) ≡ g → Reads w q g
 reads-at Idle L q e = tt
-reads-at (Announced n k) L q e = e
+reads-at (Prepared i n k) L q e = e
 
 pub reads : (h : Head) {m : ℕ} {g : ℤ} (q : ℕ → ℤ) → m ≡ previewed (h .waiting) (h .filter .tuning .length)
     → g ≡ q m → Reads (h .waiting) q g
@@ -104,7 +104,8 @@ module _ {h : Head} {l : List ℤ} (v : Valid h l) {x : ℤ} {p : Sounded} {r : 
     small = c .hears .small;
     state =
         same-state
-        (z .voice q e ∙ ap (λ (v : Voice). settled v (fedToo (waitingOf (h .waiting)) q)) heard-voice)
+        (z .voice q e ∙ ap (λ (v : Voice). settled v (fedToo (h .advance) (waitingOf (h .waiting)) q))
+        heard-voice)
         (ap (λ (at : ℕ). ring at k) (z .place) ∙ heard-line);
     valid = record {
       fit = z .fit;

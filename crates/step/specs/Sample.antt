@@ -13,7 +13,7 @@ use Rattle.rule.specs.State as Rule
 use Rattle.rule.specs.State.{back}
 use Rattle.voice.specs.declared.Filter.{Filter}
 use Rattle.voice.specs.declared.Waiting.{Waiting}
-use Rattle.voice.specs.declared.Waiting.the-variants.{Idle, Announced}
+use Rattle.voice.specs.declared.Waiting.the-variants.{Idle, Prepared}
 use Rattle.voice.specs.declared.Pluck.{Pluck}
 use Rattle.voice.specs.declared.Head.{Head}
 use Rattle.step.specs.declared.filter.Heard.{Heard}
@@ -51,16 +51,17 @@ pub record Sounds (p : Pluck) (r : Sounded) : Type 0 where
 -- g is what the eliminator reads, where a change waits
 abbrev pub Reads : Waiting → (ℕ → ℤ) → ℤ → Type 0
 Reads Idle q g = Unit {0}
-Reads (Announced e k) q g = q (e .tuning .length) ≡ g
+Reads (Prepared k e n) q g = q (e .tuning .length) ≡ g
 
 -- the length that the eliminator reads at; L where nothing waits
 abbrev pub previewed : Waiting → ℕ → ℕ
 previewed Idle L = L
-previewed (Announced e k) L = e .tuning .length
+previewed (Prepared k e n) L = e .tuning .length
 
 -- a head whose filter took its sample, and the change w that waits, which took g
 pub record Settles (h : Head) (w : Waiting) (g : ℤ) (r : Head) : Type 0 where
-  pub voice : (q : ℕ → ℤ) → Reads w q g → voiceOf r ≡ settled (voiceOf h) (fedToo (waitingOf w) q)
+  pub voice : (q : ℕ → ℤ) → Reads w q g
+      → voiceOf r ≡ settled (voiceOf h) (fedToo (h .advance) (waitingOf w) q)
   pub fit : Fit r
   pub place : r .at ≡ h .at
 

@@ -1,7 +1,7 @@
 // One sample of the voice: the loop, the eliminator of a change that waits, and the noise of a pluck.
 // The line is lent, never copied. Each function makes one part of document 01's four steps.
 ghost use mathlib.Core.Path.{_≡_};
-ghost use Prim.Native.Nat.{_≤_};
+ghost use Prim.Native.Nat.{suc, _≤_, min};
 ghost use lib.IntN.{natAbs};
 ghost use Rattle.integer.specs.Rounding.{M};
 ghost use Rattle.voice.specs.Valid.{Waiting-valid, Fit, Valid};
@@ -24,14 +24,24 @@ pub struct Stepped {
     pub head: Head,
 }
 
-// The waiting change w takes g, and is put in force once it has taken as many samples as the advance.
+// One sample more, counted up to the advance.
+fn counted(taken: u32, advance: u32) -> u32
+    ensures { λ r. ⌜ r ≡ min (suc taken) advance ⌝ }
+{
+    if taken < advance { taken + 1 } else { advance }
+}
+
+// The waiting change w takes g; an announced one is put in force once it has taken as many samples as the
+// advance.
 fn settled(h: Head, w: Waiting, g: Value) -> Head
     requires { ⌜ Fit h × Waiting-valid (h .filter .tuning .order) (h .advance) w × (natAbs (g .n) ≤ M) ⌝ }
     ensures { λ r. ⌜ Settles h w (g .n) r ⌝ }
 {
     match w {
         Waiting::Idle => h,
-        Waiting::Announced(e, taken) => settle(h, moved(e, g), taken + 1),
+        Waiting::Prepared(kind, e, taken) => {
+            settle(h, kind, moved(e, g), counted(taken, h.advance))
+        }
     }
 }
 
@@ -42,7 +52,7 @@ fn preview(h: Head) -> usize
     let w = h.waiting;
     match w {
         Waiting::Idle => h.filter.tuning.length as usize,
-        Waiting::Announced(e, _) => e.tuning.length as usize,
+        Waiting::Prepared(_, e, _) => e.tuning.length as usize,
     }
 }
 

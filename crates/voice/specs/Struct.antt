@@ -4,7 +4,6 @@ use mathlib.Core.Bool.{cond}
 use mathlib.Core.List.{List}
 use mathlib.Core.Option.{Option, none, some}
 use Prim.Native.Nat.{ℕ}
-use lib.Dec.{eqb}
 use lib.IntN.{ℤ}
 use Rattle.allpass.specs.Stored.{held}
 use Rattle.line.specs.Ring.{ring}
@@ -13,7 +12,9 @@ use Rattle.rule.specs.State.{State}
 use Rattle.voice.specs.declared.Tuning.{Tuning}
 use Rattle.voice.specs.declared.Filter.{Filter}
 use Rattle.voice.specs.declared.Waiting.{Waiting}
-use Rattle.voice.specs.declared.Waiting.the-variants.{Idle, Announced}
+use Rattle.voice.specs.declared.Kind.{Kind}
+use Rattle.voice.specs.declared.Kind.the-variants.{Announced, Asked}
+use Rattle.voice.specs.declared.Waiting.the-variants.{Idle, Prepared}
 use Rattle.voice.specs.declared.Pluck.{Pluck}
 use Rattle.voice.specs.declared.Head.{Head}
 
@@ -24,9 +25,17 @@ tuningOf t = record { N = t .order; L = t .length; d = t .delay }
 abbrev pub filterOf : Filter → List ℤ
 filterOf f = held (f .tuning .order) (f .state)
 
+abbrev pub kindOf : Kind → Rule.Kind
+kindOf Announced = Rule.announced
+kindOf Asked = Rule.asked
+
+abbrev pub preparedOf : Kind → Filter → ℕ → Rule.Waiting
+preparedOf k e n =
+    record { kind = kindOf k; tuning = tuningOf (e .tuning); taken = n; state = filterOf e }
+
 abbrev pub waitingOf : Waiting → Option Rule.Waiting
 waitingOf Idle = none
-waitingOf (Announced e k) = some (record { tuning = tuningOf (e .tuning); taken = k; state = filterOf e })
+waitingOf (Prepared k e n) = some (preparedOf k e n)
 
 abbrev pub pluckOf : Pluck → Rule.Pluck
 pluckOf p = record { amplitude = p .amplitude; left = p .left; noise = p .noise }
@@ -57,7 +66,8 @@ withOf h f w = record {
   at = h .at;
 }
 
--- h with a change to the eliminator e, which has taken k samples: "If the eliminator has now taken Na samples,
+-- h with a change to the eliminator e, which has taken n samples: "If the eliminator has now taken Na samples,
 -- L', d' and its state replace the voice's"
-abbrev pub settledOf : Head → Filter → ℕ → Head
-settledOf h e k = cond (eqb k (h .advance)) (withOf h e Idle) (withOf h (h .filter) (Announced e k))
+abbrev pub settledOf : Head → Kind → Filter → ℕ → Head
+settledOf h k e n =
+    cond (Rule.commits (kindOf k) n (h .advance)) (withOf h e Idle) (withOf h (h .filter) (Prepared k e n))

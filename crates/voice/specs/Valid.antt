@@ -12,12 +12,14 @@ use Rattle.thiran.specs.Answers.{padded}
 use Rattle.allpass.specs.Bounds.{Within}
 use Rattle.allpass.specs.Stored.{stored}
 use Rattle.line.specs.Ring.{ring}
+use Rattle.rule.specs.Voice.{announced}
 use Rattle.voice.specs.declared.Filter.{Filter}
 use Rattle.voice.specs.declared.Waiting.{Waiting}
-use Rattle.voice.specs.declared.Waiting.the-variants.{Idle, Announced}
+use Rattle.voice.specs.declared.Kind.{Kind}
+use Rattle.voice.specs.declared.Waiting.the-variants.{Idle, Prepared}
 use Rattle.voice.specs.declared.Pluck.{Pluck}
 use Rattle.voice.specs.declared.Head.{Head}
-use Rattle.voice.specs.Struct.{filterOf}
+use Rattle.voice.specs.Struct.{kindOf, filterOf}
 
 -- a filter: its tuning within the limits, its coefficients those of its tuning, its state within 2M and
 -- 0 past the order
@@ -29,15 +31,17 @@ pub record Tuned (f : Filter) : Type 0 where
   pub past : f .state ≡ stored (filterOf f)
   pub within : Within (2 * M) (filterOf f)
 
--- a waiting change: its filter, of the voice's order, has taken fewer samples than the advance
-pub record Preparing (order advance : ℕ) (e : Filter) (taken : ℕ) : Type 0 where
+-- a waiting change: its filter, of the voice's order, has taken no more samples than the advance as they are
+-- counted, and fewer where it was announced
+pub record Preparing (order advance : ℕ) (kind : Kind) (e : Filter) (taken : ℕ) : Type 0 where
   pub tuned : Tuned e
   pub same : e .tuning .order ≡ order
-  pub fewer : taken < advance
+  pub counted : taken ≤ advance
+  pub early : kindOf kind ≡ announced → taken < advance
 
 abbrev pub Waiting-valid : ℕ → ℕ → Waiting → Type 0
 Waiting-valid order advance Idle = Unit {0}
-Waiting-valid order advance (Announced e k) = Preparing order advance e k
+Waiting-valid order advance (Prepared k e n) = Preparing order advance k e n
 
 -- a pluck, all 0 where no step is left
 pub record Plucked (p : Pluck) : Type 0 where

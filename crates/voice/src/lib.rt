@@ -6,7 +6,8 @@ ghost use Prim.Native.Nat.{_≤_};
 ghost use Rattle.refusal.specs.Limits.{refusal};
 ghost use Rattle.refusal.specs.Orders.{Takes, orders, delay as Delay};
 ghost use Rattle.rule.specs.Tests.{long};
-ghost use Rattle.voice.specs.Struct.{withOf, settledOf};
+ghost use Rattle.rule.specs.Voice.{commits as Commits};
+ghost use Rattle.voice.specs.Struct.{kindOf, withOf, settledOf};
 ghost use Rattle.voice.specs.Called.{Rests};
 use allpass::State;
 use integer::Value;
@@ -25,10 +26,16 @@ pub struct Filter {
     pub state: State,
 }
 
-// A change that waits, with how many samples its eliminator has taken, or none.
+// A change waits as an announced one, which commits itself, or as one that was asked for.
+pub enum Kind {
+    Announced,
+    Asked,
+}
+
+// A change that waits, with how many samples its eliminator has taken, counted up to the advance; or none.
 pub enum Waiting {
     Idle,
-    Announced(Filter, u32),
+    Prepared(Kind, Filter, u32),
 }
 
 // The rest of a pluck, with its noise state; all 0 where no step is left.
@@ -72,16 +79,26 @@ pub fn with(h: Head, filter: Filter, waiting: Waiting) -> Head
     }
 }
 
-// h with a change to the eliminator e, which has taken so many samples: it is in force once they are as many
-// as the advance.
-pub fn settle(h: Head, e: Filter, taken: u32) -> Head
-    ensures { λ r. ⌜ r ≡ settledOf h e taken ⌝ }
+// Whether a change that has taken so many samples commits itself.
+fn commits(kind: Kind, taken: u32, advance: u32) -> bool
+    ensures { λ r. ⌜ r ≡ Commits (kindOf kind) taken advance ⌝ }
 {
-    if taken == h.advance {
+    match kind {
+        Kind::Announced => taken == advance,
+        Kind::Asked => false,
+    }
+}
+
+// h with a change to the eliminator e, which has taken so many samples: an announced one is in force once they
+// are as many as the advance.
+pub fn settle(h: Head, kind: Kind, e: Filter, taken: u32) -> Head
+    ensures { λ r. ⌜ r ≡ settledOf h kind e taken ⌝ }
+{
+    if commits(kind, taken, h.advance) {
         return with(h, e, Waiting::Idle);
     }
     let f = h.filter;
-    with(h, f, Waiting::Announced(e, taken))
+    with(h, f, Waiting::Prepared(kind, e, taken))
 }
 
 // The filter of a tuning, at rest.

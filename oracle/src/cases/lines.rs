@@ -120,8 +120,10 @@ pub fn broken(random: Random, cut: bool) -> Vec<u8> {
     base.open(None);
     base.pluck();
     base.block(3);
-    let name = base.random.pick(&["announce", "instant"]);
+    let name = base.random.pick(&["announce", "instant", "ask"]);
     base.change(name);
+    let name = base.random.pick(&["commit", "withdraw"]);
+    base.line(name.to_string());
     base.line("line 2".to_string());
     base.line("run 2 01 00 03 00 00 10 00 80 01 02 00".to_string());
     let bytes = base.bytes();

@@ -5,12 +5,15 @@ use super::text::Text;
 
 /// One random call, or a line that shows the voice.
 fn any_call(text: &mut Text) {
-    match text.random.below(12) {
-        0..=4 => text.short_block(),
-        5..=6 => text.pluck(),
-        7 => text.loss(),
-        8 => text.change("announce"),
-        9..=10 => text.change("instant"),
+    match text.random.below(18) {
+        0..=5 => text.short_block(),
+        6..=7 => text.pluck(),
+        8 => text.loss(),
+        9 => text.change("announce"),
+        10..=11 => text.change("instant"),
+        12..=13 => text.change("ask"),
+        14..=15 => text.line("commit".to_string()),
+        16 => text.line("withdraw".to_string()),
         _ => text.inspect(),
     }
 }

@@ -1,5 +1,6 @@
 //! Random cases with the answers expected: scores for the player, texts for the console.
 
+pub mod asked;
 pub mod field;
 pub mod lines;
 pub mod lists;
@@ -33,7 +34,7 @@ pub struct Case {
 #[derive(Debug, Default)]
 pub struct Report {
     /// Answers by refusal number, 0 for success.
-    pub refusals: [u64; 20],
+    pub refusals: [u64; 22],
     /// Lines answered by `error`.
     pub errors: u64,
     /// What was compared for demand 3.

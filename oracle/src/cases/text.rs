@@ -88,7 +88,7 @@ impl Text {
         self.line(format!("pluck {amplitude} {count} {seed}"));
     }
 
-    /// `announce` or `instant`.
+    /// `announce`, `instant` or `ask`.
     pub fn change(&mut self, name: &str) {
         let length = self.length();
         let delay = self.delay(self.order);

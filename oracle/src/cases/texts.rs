@@ -1,10 +1,10 @@
 //! Random console texts.
 
 use super::random::Random;
-use super::{lines, lists, recordings, words};
+use super::{asked, lines, lists, recordings, words};
 
 /// The number of kinds of text; case `index` has the kind `index` modulo this.
-const KINDS: u64 = 22;
+const KINDS: u64 = 24;
 
 /// The console text of case `index`.
 pub fn text(seed: u64, index: u64) -> Vec<u8> {
@@ -31,6 +31,7 @@ pub fn text(seed: u64, index: u64) -> Vec<u8> {
         }
         19 => recordings::written(random).bytes(),
         20 => recordings::damaged(random).bytes(),
+        21..=22 => asked::asked(random).bytes(),
         _ => words::words(random).bytes(),
     }
 }

@@ -14,6 +14,8 @@ const LINES: &[&str] = &[
     "loss 65535", "loss 65536", "pluck 1 1", "pluck 1 9 4294967295", "pluck 1 1 4294967296",
     "pluck 1 1 99999999999999999999999999999999999999999", "pluck 255 2048 7", "pluck 256 2049 7",
     "announce 3", "announce 3 4096 1", "announce 2 4100", "instant 3", "instant", "instant 2 4100",
+    "ask", "ask 3", "ask 3 4096 1", "ask 2 4100", "ask 0 4100", "ask 2 2048", "Ask 2 4100", "asks 2 4100",
+    "commit", "commit 1", "commit 0", "commit#", "commits", "withdraw", "withdraw 2 4100", "withdraw # 1",
     "block", "block 0", "block 2", "block -1", "block 1 -0", "block 1 -", "block 1 --1", "block 1 +1",
     "block 1 0-1", "block 1 -001000", "block 1 2147483647", "block 1 2147483648", "block 1 -2147483648",
     "block 1 -2147483649", "block 1 8388607", "block 1 -8388607", "block 1 8388608", "block 1 -8388608",

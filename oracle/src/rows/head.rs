@@ -11,8 +11,9 @@ use Prim.Native.Nat.{ℕ}
 use lib.IntN.{ℤ, pos, negsuc}
 use lib.ListN.{length, take}
 use Rattle.refusal.specs.Limits.{refusal}
-use Rattle.rule.specs.Voice.{Voice}
-use Rattle.rule.specs.Calls.{Call, block, loss, pluck, announce, instant, Opening, openLimits}
+use Rattle.rule.specs.Voice.{announced, asked, Voice}
+use Rattle.rule.specs.Calls.{Call, block, loss, pluck, announce, instant, ask, commit, withdraw}
+use Rattle.rule.specs.Calls.{Opening, openLimits}
 use Rattle.rule.specs.State as State
 use Rattle.rule.specs.State.{fresh, from, puts}
 

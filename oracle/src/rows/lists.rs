@@ -70,6 +70,38 @@ pub const LISTS: &[List] = &[
             loss 65536; loss 0; block 3 0 0 -7",
     },
     List {
+        name: "asked",
+        about: &[
+            "order 2, Na 2: asks with refusals 2, 3 and 6, and a change while one waits; commits with",
+            "nothing asked, too early, and four samples late; one waits at last, past Na",
+        ],
+        open: "2 3 7075 60000 2",
+        calls: "block 3 1000000 -2000000 500000; commit; withdraw; ask 0 6144; ask 2 10241; ask 2 9159;
+            ask 4 7000; announce 4 7000; instant 0 7000; commit; block 1 0; commit; block 5 0 0 7 0 0;
+            commit; commit; block 2 0 0; ask 1 6145; block 3 0 -9 0",
+    },
+    List {
+        name: "asked-at-rest",
+        about: &[
+            "order 1, Na 0: an ask waits, and is committed at once, from rest, or late; an announced",
+            "change takes effect at once and leaves nothing to commit",
+        ],
+        open: "1 2 5000 65535 0",
+        calls: "block 3 3000000 -4000000 70000; ask 1 6144; commit; block 2 0 0; ask 3 2049;
+            block 3 0 0 0; announce 1 4096; commit; withdraw; block 2 0 0; announce 2 3000; commit; block 2 0 0",
+    },
+    List {
+        name: "withdrawn",
+        about: &[
+            "order 1, Na 2: an ask is withdrawn, early and late, and leaves the voice as if it had not",
+            "been; an announced change is nothing asked, neither to commit nor to withdraw",
+        ],
+        open: "1 3 2979 62000 2",
+        calls: "block 3 2000000 -1000000 30000; ask 1 6000; block 1 0; withdraw; withdraw; ask 2 2049;
+            block 3 0 0 0; withdraw; block 1 0; announce 2 5555; commit; withdraw; block 1 0; commit;
+            block 2 0 0; commit; block 1 0",
+    },
+    List {
         name: "plucks",
         about: &["refusals 7 and 8; plucks replaced while they sound, one that runs out, one that is left"],
         open: "1 4 3000 50000 1",

@@ -5,7 +5,7 @@ use super::head::HEAD;
 use super::lists::{List, LISTS, OPENINGS};
 use super::term::{bracketed, integer, integers, natural, naturals, numbers, Term};
 use crate::call::Call;
-use crate::voice::{Tuning, Voice};
+use crate::voice::{Kind, Tuning, Voice};
 
 /// The record of an opening.
 fn opening_term(opening: Opening) -> Term {
@@ -19,6 +19,9 @@ fn call_text(call: &Call) -> String {
         Call::Pluck { amplitude, count, seed } => format!("pluck {amplitude} {count} {seed}"),
         Call::Announced { length, delay } => format!("announce {length} {delay}"),
         Call::Instant { length, delay } => format!("instant {length} {delay}"),
+        Call::Asked { length, delay } => format!("ask {length} {delay}"),
+        Call::Commit => "commit".to_string(),
+        Call::Withdraw => "withdraw".to_string(),
         Call::Block { input, places } if input.is_empty() => format!("block [] {places}"),
         Call::Block { input, places } => {
             let input: Vec<i128> = input.iter().copied().map(i128::from).collect();
@@ -32,13 +35,20 @@ fn tuning_term(order: u32, tuning: &Tuning) -> Term {
     numbers(["N", "L", "d"], [order, tuning.length, tuning.delay])
 }
 
-/// Every part of the voice but its line; "the rest of a pluck" is all 0 where no step is left.
+/// How a change waits.
+fn kind_term(kind: Kind) -> Term {
+    Term::Words(if kind == Kind::Asked { "asked" } else { "announced" }.to_string())
+}
+
+/// Every part of the voice but its line; "the rest of a pluck" is all 0 where no step is left, and
+/// the samples that a waiting change took are counted up to Na.
 fn voice_term(voice: &Voice) -> Term {
     let waiting = match &voice.waiting {
         None => Term::Words("none".to_string()),
         Some(change) => Term::Some(Box::new(Term::Record(vec![
+            ("kind", kind_term(change.kind)),
             ("tuning", tuning_term(voice.order, &change.tuning)),
-            ("taken", Term::Words(natural(change.taken))),
+            ("taken", Term::Words(natural(change.counted(voice.advance)))),
             ("state", integers(change.tuning.filter.state())),
         ]))),
     };

@@ -1,7 +1,7 @@
 -- `loops::waiting` meets its contract: the invariant is `Rendered`, of the head carried on with its change.
 -- Assumes nothing.
 use mathlib.Core.Path.{_≡_, sym, ap, subst, _∙_}
-use Prim.Native.Nat.{_+_, _-_, _≤_}
+use Prim.Native.Nat.{ℕ, suc, _+_, _-_, _≤_, min}
 use native.Mathlib.Omega.{arith}
 use borrow.Author.Needs.{needs}
 use lib.IntN.{natAbs}
@@ -10,14 +10,14 @@ use Rattle.integer.specs.Rounding.{M}
 use Rattle.rule.specs.State.{State, back}
 use Rattle.voice.specs.declared.Filter.{Filter}
 use Rattle.voice.specs.declared.Waiting.{Waiting}
-use Rattle.voice.specs.declared.Waiting.the-variants.{Announced}
+use Rattle.voice.specs.declared.Waiting.the-variants.{Prepared}
 use Rattle.voice.specs.declared.Head.{Head}
 use Rattle.voice.specs.Struct.{withOf, settledOf, stateOf}
 use Rattle.voice.specs.Valid.{Tuned, Preparing, Waiting-valid, Valid}
 use Rattle.voice.proofs.Within.{read-within}
 use Rattle.line.specs.Ring.{ring}
 use Rattle.step.specs.Sample.{Moved}
-use Rattle.loops.specs.Carried.{anewOf, carriedOf}
+use Rattle.loops.specs.Carried.{anewOf, carriedOf, kindIn}
 use Rattle.loops.proofs.Passes.{Passed, started, reads, more, ended}
 use Rattle.loops.proofs.Carrying.{as-anew, led-steps, due-later, due-self, due-as}
 use Rattle.loops.proofs.waiting.Statement.{statement}
@@ -25,7 +25,8 @@ use Rattle.loops.proofs.waiting.Tie as tie
 
 abbrev Inv-loop : tie.InvT-loop
 Inv-loop line₀ order h e taken buffer₀ v₀ u₀ last₀ at₀ i₀ line buffer v u last at i =
-    let d = settledOf (carriedOf h (anewOf order (h .filter) v) last at) (anewOf order e u) (taken + i) in
+    let k = carriedOf h (anewOf order (h .filter) v) last at in
+    let d = settledOf k (kindIn (h .waiting)) (anewOf order e u) (min (taken + i) (h .advance)) in
     Passed buffer₀ (stateOf h line₀) buffer d line i
 
 abbrev μ-loop : tie.MeasureT-loop
@@ -37,11 +38,11 @@ loop-holds c =
     let h = s .args .h in
     let e = s .args .e in
     let t = s .args .taken in
-    let w : Preparing (h .filter .tuning .order) (h .advance) e t
+    let w : Preparing (h .filter .tuning .order) (h .advance) (kindIn (h .waiting)) e t
     = subst (λ (w : Waiting). Waiting-valid (h .filter .tuning .order) (h .advance) w) (s .pre .1 .1)
     (s .pre .0 .0 .fit .waiting) in
-    let z : t + 0 ≡ t = omega arith in
-    started (due-self h (s .pre .1 .0) (s .pre .1 .0 ∙ sym (w .same)) (s .pre .1 .1) z (w .fewer))
+    let z : min (t + 0) (h .advance) ≡ t = omega (arith, w .counted) in
+    started (due-self h (s .pre .1 .0) (s .pre .1 .0 ∙ sym (w .same)) (s .pre .1 .1) z (w .early))
     (s .pre .0 .1) (s .pre .0 .0)
 
 -- a pass of the loop, once its sample is read: the change still waits
@@ -61,16 +62,20 @@ module _ (c : tie.After-read Inv-loop μ-loop) where
   abbrev quiet : Head
   quiet = carriedOf (start .args .h) filter (pass .loop .last) (pass .loop .at)
 
+  -- as many samples as are counted
+  abbrev count : ℕ
+  count = min (start .args .taken + pass .loop .i) (start .args .h .advance)
+
   abbrev head : Head
-  head = withOf quiet filter (Announced eliminator (start .args .taken + pass .loop .i))
+  head = withOf quiet filter (Prepared (kindIn (start .args .h .waiting)) eliminator count)
 
   abbrev begins : State
   begins = stateOf (start .args .h) (start .args .line .now)
 
-  waits : settledOf quiet eliminator (start .args .taken + pass .loop .i) ≡ head
+  waits : settledOf quiet (kindIn (start .args .h .waiting)) eliminator count ≡ head
   waits =
-      due-later quiet eliminator (start .args .taken + pass .loop .i)
-      (omega (arith, start .pre .0 .2, pass .loop .inv .0 .long, c .before .before .loop-test .taken))
+      due-later quiet (kindIn (start .args .h .waiting)) eliminator count
+      (λ a. omega (arith, start .pre .0 .2 a, pass .loop .inv .0 .long, c .before .before .loop-test .taken))
 
   so-far : Passed (start .args .buffer .now) begins (pass .loop .buffer) head (pass .loop .line)
       (pass .loop .i)
@@ -153,10 +158,11 @@ loop-again c =
     let same-filter = as-anew (h .filter) (valid r .fit .filter) (made .hears .moved .tuned)
     (made .hears .moved .tuning) in
     let same-next = as-anew (s .args .e) (valid r .fit .waiting .tuned) (m .tuned) (m .tuning) in
-    let z : (s .args .taken + l .i) + 1 ≡ s .args .taken + (l .i + 1) = omega arith in
+    let z : min (suc (count r)) (h .advance) ≡ min (s .args .taken + (l .i + 1)) (h .advance)
+    = omega arith in
     more (so-far r) (r .before .before .loop-test .taken) (r .read .ensures)
     (led-steps h (s .pre .1 .2) made m (valid r)) (wrote .write .ensures)
-    (due-as h y at same-filter same-next z)
+    (due-as h y at (kindIn (h .waiting)) same-filter same-next z)
 
 anew-requires-3 : tie.Need-anew-requires-3 Inv-loop μ-loop
 anew-requires-3 c κs = search needs
@@ -178,10 +184,13 @@ returns c =
     let i = l .inv .0 in
     let n = length (s .args .buffer .now) in
     let left = c .before .before .before .loop-test .left in
-    let end : s .args .taken + n ≡ s .args .taken + l .i = omega (arith, i .long, i .within) in
+    let a = h .advance in
+    let end : min (s .args .taken + n) a ≡ min (s .args .taken + l .i) a
+    = omega (arith, i .long, i .within, left) in
     ended (l .inv) left
-    (ap (λ (k : Head). settledOf k (c .anew4 .result) (s .args .taken + n)) (c .before .carried .ensures)
-    ∙ due-as h (l .last) (l .at) (c .before .before .anew3 .ensures) (c .anew4 .ensures) end)
+    (ap (λ (k : Head). settledOf k (kindIn (h .waiting)) (c .anew4 .result) (min (s .args .taken + n) a))
+    (c .before .carried .ensures)
+    ∙ due-as h (l .last) (l .at) (kindIn (h .waiting)) (c .before .before .anew3 .ensures) (c .anew4 .ensures) end)
 
 pub waiting-spec : {M : Type 1} → statement M
 waiting-spec =

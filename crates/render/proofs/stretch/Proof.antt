@@ -30,7 +30,7 @@ while-idle-requires c κs = search needs
 enum-known-w : tie.Need-enum-known-w
 enum-known-w c = search needs
 
--- where a change waits: `.given` has its eliminator and how many samples it has taken
+-- where a change waits: `.given` has its kind, its eliminator and how many samples it has taken
 module _ (c : tie.After-w) where
   abbrev start : tie.Start
   start = c .before .before .before .before
@@ -39,18 +39,19 @@ module _ (c : tie.After-w) where
   h = start .args .h
 
   waits : Preparing (h .filter .tuning .order) (h .advance) (c .w .given .0 .0) (c .w .given .0 .1 .0)
+      (c .w .given .0 .1 .1 .0)
   waits =
       subst (λ (w : Waiting). Waiting-valid (h .filter .tuning .order) (h .advance) w) (c .w .given .1)
       (start .pre .0 .fit .waiting)
 
-sub-smaller : tie.Need-sub-smaller
-sub-smaller c = omega (arith, waits (c .before .before) .fewer)
+sub-reach : tie.Need-sub-reach
+sub-reach c = omega (arith, waits (c .before .before) .counted)
 
-cast-smaller : tie.Need-cast-smaller
-cast-smaller c = search needs
+cast-reach : tie.Need-cast-reach
+cast-reach c = search needs
 
-smaller-requires : tie.Need-smaller-requires
-smaller-requires c κs = search needs
+reach-requires : tie.Need-reach-requires
+reach-requires c κs = search needs
 
 slice-relend-prefix-while-waiting : tie.Need-slice-relend-prefix-while-waiting
 slice-relend-prefix-while-waiting c = search needs
@@ -59,7 +60,7 @@ slice-aggregate-while-waiting : tie.Need-slice-aggregate-while-waiting
 slice-aggregate-while-waiting c =
     let m = c .before .before in
     let s = start (m .before .before .before) in
-    sym (length-take-le (m .smaller .result) (s .args .buffer .now) (m .smaller .ensures .0))
+    sym (length-take-le (m .reach .result) (s .args .buffer .now) (m .reach .ensures .0))
 
 while-waiting-requires : tie.Need-while-waiting-requires
 while-waiting-requires c κs =
@@ -67,9 +68,13 @@ while-waiting-requires c κs =
     let a = m .before .before .before in
     let s = start a in
     let b = s .args .buffer .now in
-    let n = m .smaller .result in
-    let l = length-take-le n b (m .smaller .ensures .0) in (
-      (s .pre .0, loudest-take n b (s .pre .1), omega (arith, l, m .smaller .ensures .1, waits a .fewer)),
+    let n = m .reach .result in
+    let l = length-take-le n b (m .reach .ensures .0) in (
+      (
+        s .pre .0,
+        loudest-take n b (s .pre .1),
+        λ i. omega (arith, l, m .reach .ensures .1 i, waits a .counted),
+      ),
       (a .w .given .1, a .before .before .if1 .left),
     )
 
@@ -88,9 +93,9 @@ returns-3 c =
     let m = k .before .before .before in
     let a = m .before .before .before in
     let s = start a in
-    let e = m .smaller .ensures in (
-      rendered-first (s .args .buffer .now) (m .smaller .result) (e .0) (s .pre .1) (k .while-waiting .ensures .0),
-      (k .while-waiting .ensures .1, λ h. e .2 h (omega (arith, waits a .fewer))),
+    let e = m .reach .ensures in (
+      rendered-first (s .args .buffer .now) (m .reach .result) (e .0) (s .pre .1) (k .while-waiting .ensures .0),
+      (k .while-waiting .ensures .1, λ h. e .2 h (λ i. omega (arith, waits a .early i))),
     )
 
 pub stretch-spec : {M : Type 1} → statement M
@@ -103,9 +108,9 @@ stretch-spec =
     enum-told
     while-idle-requires
     enum-known-w
-    sub-smaller
-    cast-smaller
-    smaller-requires
+    sub-reach
+    cast-reach
+    reach-requires
     slice-relend-prefix-while-waiting
     slice-aggregate-while-waiting
     while-waiting-requires

@@ -23,10 +23,21 @@ announce-requires c κs = search needs
 returns-3 : tie.Need-returns-3
 returns-3 c = λ k v. on k (c .announce .ensures) (v .line) .valid
 
+pedal-requires : tie.Need-pedal-requires
+pedal-requires c κs = search needs
+
 returns-4 : tie.Need-returns-4
 returns-4 c = search needs
 
 pub set-spec : {M : Type 1} → statement M
 set-spec =
     tie.close
-    (tie.spec loss-requires returns pluck-requires returns-2 announce-requires returns-3 returns-4)
+    (tie.spec
+    loss-requires
+    returns
+    pluck-requires
+    returns-2
+    announce-requires
+    returns-3
+    pedal-requires
+    returns-4)

@@ -3,7 +3,6 @@
 use mathlib.Core.Path.{_≡_, sym, subst}
 use mathlib.Core.List.{List}
 use Prim.Native.Nat.{ℕ}
-use native.Mathlib.Omega.{arith}
 use borrow.Author.Needs.{needs}
 use lib.IntN.{ℤ}
 use Rattle.voice.specs.declared.Answer.{Answer}
@@ -43,37 +42,12 @@ returns-2 c =
     made s 2 (c .before .if2 .taken) (c .pluck .result)
     (λ xs. on (s .args .line .now) (c .pluck .ensures) (s .pre .0 .line))
 
-announce-requires : tie.Need-announce-requires
-announce-requires c κs = c .before .before .before .before .before .before .pre .0 .fit
+changed-requires : tie.Need-changed-requires
+changed-requires c κs = search needs
 
 returns-3 : tie.Need-returns-3
-returns-3 c =
-    let s = c .before .before .before .before .before .before .before in
-    made s 3 (c .before .if3 .taken) (c .announce .result)
-    (λ xs. on (s .args .line .now) (c .announce .ensures) (s .pre .0 .line))
-
-instant-requires : tie.Need-instant-requires
-instant-requires c κs = search needs
-
-returns-4 : tie.Need-returns-4
-returns-4 c =
-    let b = c .before in
-    let t = b .before .before .before in
-    let f = t .before .before in
-    let s = f .before .before in
-    let e : s .args .w .kind ≡ 4
-    = omega (arith, s .pre .1, s .pre .2, f .if1 .left, t .if2 .left, b .before .if3 .left) in
-    made s 4 e (b .instant .result .answer) (λ xs. b .instant .ensures .0)
+returns-3 c = search needs
 
 pub set-spec : {M : Type 1} → statement M
 set-spec =
-    tie.close
-    (tie.spec
-    loss-requires
-    returns
-    pluck-requires
-    returns-2
-    announce-requires
-    returns-3
-    instant-requires
-    returns-4)
+    tie.close (tie.spec loss-requires returns pluck-requires returns-2 changed-requires returns-3)

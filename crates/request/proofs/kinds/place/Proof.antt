@@ -6,10 +6,10 @@ use Rattle.request.proofs.kinds.place.Statement.{statement}
 use Rattle.request.proofs.kinds.place.Tie as tie
 
 abbrev Inv-loop : tie.InvT-loop
-Inv-loop w names t₀ k₀ t k = k ≤ 17
+Inv-loop w names t₀ k₀ t k = k ≤ 20
 
 abbrev μ-loop : tie.MeasureT-loop
-μ-loop w names t₀ k₀ t k = 17 - k
+μ-loop w names t₀ k₀ t k = 20 - k
 
 loop-holds : tie.Need-loop-holds Inv-loop μ-loop
 loop-holds c = search needs

@@ -1,0 +1,46 @@
+/* The table that bench.c prints. */
+#include "bench.h"
+#include <stdio.h>
+
+static void print_row(const Row *r)
+{
+    static const char *const changes[] = { "none", "announced", "instant", "asked" };
+    printf("| %u | %s | %u | %.0f | %.0f | %.2f | %zu | %s |\n", r->order, changes[r->change], r->wait,
+           r->written / r->best[0] / 1e6, r->written / r->best[1] / 1e6, r->best[0] / r->best[1], r->stack,
+           r->agree ? "yes" : "NO");
+}
+
+/* What a sample, a record and a change with its eliminator cost, in nanoseconds, from the rows of one order. */
+static void print_costs(const Row *none, const Row *announced, const Row *instant)
+{
+    for (int k = 0; k < 2; k++) {
+        double sample = none[2].best[k] / none[2].written, record = none[0].best[k] / none[0].written;
+        double a = announced[0].best[k] / announced[0].written, i = instant[0].best[k] / instant[0].written;
+        printf("| %u | %s | %.2f | %.0f | %.0f | %.0f |\n", none->order, k ? "proved" : "C", 1e9 * sample,
+               64e9 * (record - sample), 64e9 * (a - record), 64e9 * (i - record));
+    }
+}
+
+/* The least ratio of the rows from one to before another, at waits of 64 or of more. */
+static double least(const Row *from, const Row *to, int more)
+{
+    double least = 1e9;
+    for (const Row *r = from; r < to; r++)
+        if ((r->wait > 64) == more && r->best[0] / r->best[1] < least)
+            least = r->best[0] / r->best[1];
+    return least;
+}
+
+void print_rows(const Row *rows)
+{
+    printf("| order | changes | wait | C, million samples a second | proved | ratio | bytes of stack | all agree |\n");
+    printf("|---|---|---|---|---|---|---|---|\n");
+    for (int i = 0; i < ROWS; i++)
+        print_row(&rows[i]);
+    printf("\nleast ratio at waits of 64: %.3f; of 1,024 and more: %.3f; with an asked change: %.3f\n",
+           least(rows, rows + SCORES, 0), least(rows, rows + SCORES, 1), least(rows + SCORES, rows + ROWS, 1));
+    printf("\n| order | nanoseconds of | a sample | a record | an announced change | an instant change |\n");
+    printf("|---|---|---|---|---|---|\n");
+    print_costs(rows, rows + 6, rows + 12);
+    print_costs(rows + 3, rows + 9, rows + 15);
+}

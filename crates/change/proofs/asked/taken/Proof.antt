@@ -1,0 +1,20 @@
+-- `change::asked::taken` meets its contract: by what waits.
+-- Assumes nothing.
+use borrow.Author.Needs.{needs}
+use Rattle.change.proofs.asked.taken.Statement.{statement}
+use Rattle.change.proofs.asked.taken.Tie as tie
+
+enum-told : tie.Need-enum-told
+enum-told c = search needs
+
+enum-known-w : tie.Need-enum-known-w
+enum-known-w c = search needs
+
+returns : tie.Need-returns
+returns c = search needs
+
+returns-2 : tie.Need-returns-2
+returns-2 c = rw (c .before .w .given .1)
+
+pub taken-spec : {M : Type 1} → statement M
+taken-spec = tie.close (tie.spec enum-told enum-known-w returns returns-2)
