@@ -9,7 +9,7 @@
 
 enum { ROUNDS = 20, RUNS = 15, SAMPLES = 1 << 17, RECORDS = 1 << 14 };
 
-static const uint32_t waits[] = { 64, 1024, 65535 };
+static const uint32_t waits[WAITS] = { 64, 1024, 65535 };
 
 /* A score is short enough to be played within one turn that the system gives a program. */
 static uint8_t score[16 * RECORDS];
@@ -116,7 +116,8 @@ int main(void)
     Played p;
     int agree = 1;
     for (int i = 0; i < SCORES; i++)
-        rows[i] = (Row){ .order = i / 3 % 2 + 1, .change = i / 6, .wait = waits[i % 3], .agree = 1 };
+        rows[i] = (Row){ .order = i / WAITS % ORDERS + 1, .change = i / (WAITS * ORDERS), .wait = waits[i % WAITS],
+                         .agree = 1 };
     for (int i = SCORES; i < ROWS; i++)
         rows[i] = (Row){ .order = i - SCORES + 1, .change = ASKED_CHANGE, .wait = waits[1], .agree = 1 };
     for (int round = 0; round < ROUNDS; round++) {

@@ -19,9 +19,11 @@ static inline __attribute__((always_inline)) void
 stretch(Voice *v, const int32_t *restrict in, int32_t *restrict out, uint32_t n, uint32_t order, int waits, int plucks,
         int feeds)
 {
-    const int64_t a1 = v->filter.a1, a2 = v->filter.a2, b1 = v->next.a1, b2 = v->next.a2;
+    const int64_t a1 = v->filter.a1, a2 = v->filter.a2, a3 = v->filter.a3;
+    const int64_t b1 = v->next.a1, b2 = v->next.a2, b3 = v->next.a3;
     const int64_t loss = v->loss, amplitude = v->amplitude;
-    int64_t v1 = v->filter.v1, v2 = v->filter.v2, e1 = v->next.v1, e2 = v->next.v2, last = v->last;
+    int64_t v1 = v->filter.v1, v2 = v->filter.v2, v3 = v->filter.v3, last = v->last;
+    int64_t e1 = v->next.v1, e2 = v->next.v2, e3 = v->next.v3;
     uint32_t noise = v->noise;
     int32_t *to = v->line + v->at;
     const int32_t *from = v->line + place(v->at, v->filter.length);
@@ -31,14 +33,21 @@ stretch(Voice *v, const int32_t *restrict in, int32_t *restrict out, uint32_t n,
         if (order == 1) {
             w = from[i] - ((a1 * v1 + 32768) >> 16);
             y = clip(v1 + ((a1 * w + 32768) >> 16));
-        } else {
+        } else if (order == 2) {
             w = from[i] - ((a1 * v1 + a2 * v2 + 32768) >> 16);
             y = clip(v2 + ((a2 * w + a1 * v1 + 32768) >> 16));
+            v2 = v1;
+        } else {
+            w = from[i] - ((a1 * v1 + (a2 * v2 + a3 * v3 + 32768)) >> 16);
+            y = clip(v3 + ((a3 * w + (a2 * v1 + a1 * v2 + 32768)) >> 16));
+            v3 = v2;
             v2 = v1;
         }
         v1 = w;
         if (waits) {
-            int64_t e = ahead[i] - ((b1 * e1 + (order == 1 ? 0 : b2 * e2) + 32768) >> 16);
+            int64_t more = (order > 1 ? b2 * e2 : 0) + (order > 2 ? b3 * e3 : 0);
+            int64_t e = ahead[i] - ((b1 * e1 + more + 32768) >> 16);
+            e3 = e2;
             e2 = e1;
             e1 = e;
         }
@@ -54,11 +63,13 @@ stretch(Voice *v, const int32_t *restrict in, int32_t *restrict out, uint32_t n,
         out[i] = y;
     }
     v->filter.v1 = v1;
-    v->filter.v2 = order == 1 ? 0 : v2;
+    v->filter.v2 = order > 1 ? v2 : 0;
+    v->filter.v3 = order > 2 ? v3 : 0;
     v->last = last;
     if (waits) {
         v->next.v1 = e1;
-        v->next.v2 = order == 1 ? 0 : e2;
+        v->next.v2 = order > 1 ? e2 : 0;
+        v->next.v3 = order > 2 ? e3 : 0;
     }
     v->noise = noise;
 }
@@ -75,6 +86,10 @@ static inline __attribute__((always_inline)) void stretch_of(Voice *v, const int
     case 5: stretch(v, in, out, n, 2, 0, 1, feeds); break;
     case 6: stretch(v, in, out, n, 2, 1, 0, feeds); break;
     case 7: stretch(v, in, out, n, 2, 1, 1, feeds); break;
+    case 8: stretch(v, in, out, n, 3, 0, 0, feeds); break;
+    case 9: stretch(v, in, out, n, 3, 0, 1, feeds); break;
+    case 10: stretch(v, in, out, n, 3, 1, 0, feeds); break;
+    case 11: stretch(v, in, out, n, 3, 1, 1, feeds); break;
     }
 }
 

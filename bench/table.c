@@ -41,6 +41,6 @@ void print_rows(const Row *rows)
            least(rows, rows + SCORES, 0), least(rows, rows + SCORES, 1), least(rows + SCORES, rows + ROWS, 1));
     printf("\n| order | nanoseconds of | a sample | a record | an announced change | an instant change |\n");
     printf("|---|---|---|---|---|---|\n");
-    print_costs(rows, rows + 6, rows + 12);
-    print_costs(rows + 3, rows + 9, rows + 15);
+    for (const Row *none = rows; none < rows + WAITS * ORDERS; none += WAITS)
+        print_costs(none, none + WAITS * ORDERS, none + 2 * WAITS * ORDERS);
 }

@@ -11,13 +11,18 @@ static int64_t nearest(int64_t p, int64_t q)
 
 static Filter resting(uint32_t order, uint32_t length, uint32_t delay)
 {
-    Filter f = { 0, 0, 0, 0, length, delay };
+    Filter f = { 0, 0, 0, 0, 0, 0, length, delay };
     int64_t d = delay;
     if (order == 1) {
         f.a1 = nearest(65536 * (4096 - d), 4096 + d);
-    } else {
+    } else if (order == 2) {
         f.a1 = nearest(65536 * -2 * (d - 8192), d + 4096);
         f.a2 = nearest(65536 * (d - 4096) * (d - 8192), (d + 4096) * (d + 8192));
+    } else {
+        int64_t p = (d + 4096) * (d + 8192), q = (d - 8192) * (d - 12288);
+        f.a1 = nearest(65536 * -3 * (d - 12288), d + 4096);
+        f.a2 = nearest(65536 * 3 * q, p);
+        f.a3 = nearest(-65536 * (d - 4096) * q, p * (d + 12288));
     }
     return f;
 }
@@ -32,7 +37,7 @@ static uint32_t untuned(uint32_t order, uint32_t length, uint32_t delay)
 
 uint32_t open_voice(Voice *v, uint32_t order, uint32_t length, uint32_t delay, uint32_t loss, uint32_t advance)
 {
-    uint32_t code = outside(order, 1, 2) ? 1 : untuned(order, length, delay);
+    uint32_t code = outside(order, 1, 3) ? 1 : untuned(order, length, delay);
     if (code == 0)
         code = loss > 65535 ? 4 : advance > 64 ? 5 : 0;
     memset(v, 0, sizeof *v);
@@ -73,8 +78,10 @@ uint32_t change(Voice *v, uint32_t length, uint32_t delay, int kind)
     Filter f = resting(v->order, length, delay);
     if (kind == INSTANT) {
         for (uint32_t k = v->advance; k > 0; k--) {
-            int64_t w = v->line[place(v->at, length + k)] - ((f.a1 * f.v1 + f.a2 * f.v2 + 32768) >> 16);
-            f.v2 = v->order == 1 ? 0 : f.v1;
+            int64_t u = f.a1 * f.v1 + (f.a2 * f.v2 + f.a3 * f.v3 + 32768);
+            int64_t w = v->line[place(v->at, length + k)] - (u >> 16);
+            f.v3 = v->order > 2 ? f.v2 : 0;
+            f.v2 = v->order > 1 ? f.v1 : 0;
             f.v1 = w;
         }
         v->filter = f;

@@ -14,15 +14,16 @@ static void zero(int64_t left)
 
 static void coefficients(uint32_t order, uint32_t delay)
 {
-    int32_t a1 = 7, a2 = 7;
-    uint32_t refusal = jivaszte_coefficients(order, delay, &a1, &a2);
+    int32_t a1 = 7, a2 = 7, a3 = 7;
+    uint32_t refusal = jivaszte_coefficients(order, delay, &a1, &a2, &a3);
     printf("coefficients %u %u: ", order, delay);
     if (refusal == JIVASZTE_DONE) {
-        printf("%d %d\n", a1, a2);
+        printf("%d %d %d\n", a1, a2, a3);
     } else {
         printf("refused by %u\n", refusal);
         zero(a1);
         zero(a2);
+        zero(a3);
     }
 }
 
@@ -128,7 +129,8 @@ int main(void)
         192, 93, 0, 0, 3, 0, 24, 0, 'd', 'a', 't', 'a', 9, 0, 0, 0, 255, 255, 127, 0, 0, 128, 1, 0, 0, 0,
     };
     static const uint8_t paper[] = { 1, 0, 3, 0, 0, 16, 0, 128, 48, 1, 0, 1, 0, 1, 10, 0 };
-    static const uint8_t third[] = { 3, 0, 3, 0, 0, 16, 0, 128, 1, 10, 0 };
+    static const uint8_t third[] = { 3, 0, 3, 0, 1, 40, 0, 128, 48, 1, 0, 1, 0, 1, 10, 0 };
+    static const uint8_t fourth[] = { 4, 0, 3, 0, 0, 16, 0, 128, 1, 10, 0 };
     static const uint8_t waits[] = { 1, 4, 3, 0, 0, 16, 0, 128, 1, 2, 0, 2, 5, 0, 3, 3, 0, 6, 0 };
     static const uint8_t every[] = { 255, 1, 2, 3, 4, 5, 6, 7, 8, 9, 10, 11, 12, 13, 14, 99 };
     static const uint8_t seed[] = { 64, 1, 2 };
@@ -149,16 +151,19 @@ int main(void)
 
     coefficients(1, 2979);
     coefficients(2, 6145);
-    coefficients(3, 4096);
+    coefficients(3, 14336);
+    coefficients(4, 16384);
     coefficients(1, 2048);
     coefficients(4294967295u, 4294967295u);
     effective_length(2, 9159, 1000);
+    effective_length(3, 14336, 1000);
     effective_length(1, 6144, 1000000);
     effective_length(0, 4096, 0);
     effective_length(2, 6144, 0);
     note(1, 44100, 69);
     note(2, 44100, 69);
     note(3, 44100, 69);
+    note(4, 44100, 69);
     note(1, 7999, 69);
     note(1, 44100, 128);
     note(1, 192000, 0);
@@ -172,6 +177,7 @@ int main(void)
     run("of the paper", paper, sizeof paper, 16);
     run("with no room left", paper, sizeof paper, 9);
     run("of order 3", third, sizeof third, 16);
+    run("of order 4", fourth, sizeof fourth, 16);
     run("of a header cut short", paper, 7, 16);
     run("of a change that waits", waits, sizeof waits, 16);
     run("of nothing", paper, 0, 0);

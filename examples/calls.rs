@@ -3,7 +3,7 @@ mod jivaszte;
 
 fn coefficients(order: u32, delay: u32) {
     match jivaszte::coefficients(order, delay) {
-        Ok((a1, a2)) => println!("coefficients {order} {delay}: {a1} {a2}"),
+        Ok([a1, a2, a3]) => println!("coefficients {order} {delay}: {a1} {a2} {a3}"),
         Err(refusal) => println!("coefficients {order} {delay}: refused by {refusal}"),
     }
 }
@@ -75,7 +75,8 @@ fn main() {
     let header = b"RIFF\x2e\0\0\0WAVEfmt \x10\0\0\0\x01\0\x01\0\x40\x1f\0\0\xc0\x5d\0\0\x03\0\x18\0data\x09\0\0\0";
     let file = [&header[..], &[255, 255, 127, 0, 0, 128, 1, 0, 0, 0]].concat();
     let paper = [1, 0, 3, 0, 0, 16, 0, 128, 48, 1, 0, 1, 0, 1, 10, 0];
-    let third = [3, 0, 3, 0, 0, 16, 0, 128, 1, 10, 0];
+    let third = [3, 0, 3, 0, 1, 40, 0, 128, 48, 1, 0, 1, 0, 1, 10, 0];
+    let fourth = [4, 0, 3, 0, 0, 16, 0, 128, 1, 10, 0];
     let waits = [1, 4, 3, 0, 0, 16, 0, 128, 1, 2, 0, 2, 5, 0, 3, 3, 0, 6, 0];
     let every = [255, 1, 2, 3, 4, 5, 6, 7, 8, 9, 10, 11, 12, 13, 14, 99];
     let seed = [64, 1, 2];
@@ -86,16 +87,19 @@ fn main() {
 
     coefficients(1, 2979);
     coefficients(2, 6145);
-    coefficients(3, 4096);
+    coefficients(3, 14336);
+    coefficients(4, 16384);
     coefficients(1, 2048);
     coefficients(u32::MAX, u32::MAX);
     effective_length(2, 9159, 1000);
+    effective_length(3, 14336, 1000);
     effective_length(1, 6144, 1_000_000);
     effective_length(0, 4096, 0);
     effective_length(2, 6144, 0);
     note(1, 44_100, 69);
     note(2, 44_100, 69);
     note(3, 44_100, 69);
+    note(4, 44_100, 69);
     note(1, 7_999, 69);
     note(1, 44_100, 128);
     note(1, 192_000, 0);
@@ -110,6 +114,7 @@ fn main() {
     run("of the paper", &paper, 16);
     run("with no room left", &paper, 9);
     run("of order 3", &third, 16);
+    run("of order 4", &fourth, 16);
     run("of a header cut short", &paper[..7], 16);
     run("of a change that waits", &waits, 16);
     run("of nothing", &[], 0);

@@ -4,7 +4,7 @@
 mod c {
     #[link(name = "jivaszte", kind = "static")]
     extern "C" {
-        pub fn jivaszte_coefficients(order: u32, delay: u32, a1: &mut i32, a2: &mut i32) -> u32;
+        pub fn jivaszte_coefficients(order: u32, delay: u32, a1: &mut i32, a2: &mut i32, a3: &mut i32) -> u32;
         pub fn jivaszte_effective_length(order: u32, delay: u32, threshold: u32, length: &mut u32) -> u32;
         pub fn jivaszte_note(order: u32, rate: u32, note: u32, length: &mut u32, delay: &mut u32) -> u32;
         pub fn jivaszte_draw(noise: &mut u32) -> i32;
@@ -103,12 +103,12 @@ pub fn record(score: &[u8]) -> (&[u8], [u32; 9]) {
     (&score[took..], fields)
 }
 
-/// A1 and A2, or the number of a refusal.
-pub fn coefficients(order: u32, delay: u32) -> Result<(i32, i32), u32> {
-    let (mut a1, mut a2) = (0, 0);
+/// A1, A2 and A3, which are 0 past the order, or the number of a refusal.
+pub fn coefficients(order: u32, delay: u32) -> Result<[i32; 3], u32> {
+    let [mut a1, mut a2, mut a3] = [0; 3];
     // SAFETY: as for `run`.
-    match unsafe { c::jivaszte_coefficients(order, delay, &mut a1, &mut a2) } {
-        0 => Ok((a1, a2)),
+    match unsafe { c::jivaszte_coefficients(order, delay, &mut a1, &mut a2, &mut a3) } {
+        0 => Ok([a1, a2, a3]),
         refusal => Err(refusal),
     }
 }

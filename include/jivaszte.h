@@ -49,9 +49,9 @@ static inline const char *jivaszte_words(uint32_t number)
 {
     static const char *const words[] = {
         "done",
-        "the order is not 1 or 2",
+        "the order is not 1, 2 or 3",
         "the length is outside 1 to 2048",
-        "the delay is outside the order's range: 2049 to 6144 in order 1, 6145 to 10240 in order 2",
+        "the delay is outside the order's range: 2049 to 6144 in order 1, 6145 to 10240 in order 2, 10241 to 14336 in order 3",
         "the loss is above 65535",
         "the advance is above 64",
         "a change waits",
@@ -103,8 +103,9 @@ enum {
     JIVASZTE_FIELDS = 9
 };
 
-/* The coefficients of an order and a delay in 1/4,096 of a sample, in units of 1/65,536. Refuses by 1, 3. */
-uint32_t jivaszte_coefficients(uint32_t order, uint32_t delay, int32_t *a1, int32_t *a2);
+/* The coefficients of an order and a delay in 1/4,096 of a sample, in units of 1/65,536; those past the order are 0.
+   Refuses by 1, 3. */
+uint32_t jivaszte_coefficients(uint32_t order, uint32_t delay, int32_t *a1, int32_t *a2, int32_t *a3);
 
 /* The index, from 0, of the last of the first 64 values of an eliminator's response to 1,000,000 that exceeds the
    threshold in magnitude, plus one; 0 where none does. Refuses by 1, 3. */

@@ -14,9 +14,14 @@ pub fn figure(order: u32, advance: u32) -> u32 {
     }
 }
 
-/// The least advance with which the figure is as small as it gets.
+/// The least advance with which the figure is as small as it gets; the greatest where that is less.
 pub fn best_advance(order: u32) -> u32 {
     MOST_ADVANCE.min(LAST_HALVING.saturating_mul(order))
+}
+
+/// How many samples after a change the figure is as small as it gets, with this advance.
+pub fn samples_to_best(order: u32, advance: u32) -> u32 {
+    LAST_HALVING.saturating_mul(order).saturating_sub(advance)
 }
 
 #[cfg(test)]
@@ -35,9 +40,11 @@ mod tests {
                 let level = decibels(units.into(), FULL_SCALE.into());
                 format!("{} | {level:.1} dB", grouped(units.into())).replace('-', "−")
             };
-            let row = format!("| {advance} | {} | {} |", cell(1), cell(2));
+            let row = format!("| {advance} | {} | {} | {} |", cell(1), cell(2), cell(3));
             assert!(document.contains(&row), "{row}");
         }
         assert_eq!((best_advance(1), best_advance(2), best_advance(3)), (24, 48, 64));
+        assert_eq!([1, 2, 3].map(|order| samples_to_best(order, 64)), [0, 0, 8]);
+        assert_eq!((figure(3, 64), figure(3, 64 + samples_to_best(3, 64))), (12, 2));
     }
 }

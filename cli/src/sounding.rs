@@ -25,9 +25,9 @@ pub fn hertz(order: u32, rate: u32, tuning: Tuning) -> Result<f64, u32> {
     if !LENGTHS.contains(&tuning.length.into()) {
         return Err(refusal::LENGTH);
     }
-    let (a1, a2) = proved::coefficients(order, tuning.delay.into())?;
+    let given = proved::coefficients(order, tuning.delay.into())?;
     let coefficients: Vec<f64> =
-        [a1, a2].iter().take(order as usize).map(|&a| f64::from(a) / ONE).collect();
+        given.iter().take(order as usize).map(|&a| f64::from(a) / ONE).collect();
     let mut period = f64::from(tuning.period()) / 4_096.0;
     for _ in 0..100 {
         period = f64::from(tuning.length) + 0.5 + filter_delay(&coefficients, TAU / period);
@@ -38,10 +38,11 @@ pub fn hertz(order: u32, rate: u32, tuning: Tuning) -> Result<f64, u32> {
 #[cfg(test)]
 mod tests {
     use super::*;
+    use crate::tuning::ORDERS;
 
     #[test]
     fn low_notes_sound_as_tuned() {
-        for order in [1, 2] {
+        for order in ORDERS {
             let (length, delay) = proved::note(order, 44_100, 45).unwrap();
             let tuning = Tuning { length: length as u16, delay: delay as u16 };
             assert!((hertz(order, 44_100, tuning).unwrap() - 110.0).abs() < 0.01);

@@ -4,7 +4,7 @@ use crate::refusal;
 use std::ops::RangeInclusive;
 
 /// The orders that the library takes. A further order is added here.
-pub const ORDERS: RangeInclusive<u32> = 1..=2;
+pub const ORDERS: RangeInclusive<u32> = 1..=3;
 /// The rates that notes and WAV files may have, in samples a second.
 pub const RATES: RangeInclusive<u32> = 8_000..=192_000;
 pub const DEFAULT_RATE: u32 = 44_100;
@@ -68,7 +68,12 @@ mod tests {
             Tuning::of_period(2, a4.period().into()),
             Ok(Tuning { length: 98, delay: 7_075 })
         );
+        assert_eq!(
+            Tuning::of_period(3, a4.period().into()),
+            Ok(Tuning { length: 97, delay: 11_171 })
+        );
         assert_eq!(Tuning::of_period(0, 400_000), Err(refusal::ORDER));
+        assert_eq!(Tuning::of_period(4, 400_000), Err(refusal::ORDER));
         assert_eq!(Tuning::of_period(1, 0), Err(refusal::NOTE_LENGTH));
         assert_eq!(Tuning::of_period(1, u64::MAX), Err(refusal::NOTE_LENGTH));
     }

@@ -61,7 +61,7 @@ fn wait(random: &mut Random, rate: u32) -> u16 {
 }
 
 fn score(random: &mut Random, rate: u32) -> Score {
-    let order = if random.one_in(10) { random.below(9) } else { 1 + random.below(2) } as u32;
+    let order = if random.one_in(10) { random.below(9) } else { 1 + random.below(3) } as u32;
     let advances = if random.one_in(8) { 256 } else { 65 };
     let header = Header {
         order: order as u8,

@@ -7,6 +7,7 @@ use jivaszte::pitch::{cents_above, Pitch};
 use jivaszte::sounding;
 use jivaszte::take::{self, Refused};
 use jivaszte::text::compile;
+use jivaszte::tuning::ORDERS;
 use std::f64::consts::TAU;
 
 const RATE: u32 = 44_100;
@@ -24,7 +25,7 @@ fn slides_are_never_refused() {
     let (mut played, mut told) = (0, 0);
     for seed in 0..400 {
         let mut random = Random::new(seed);
-        let order = if random.one_in(2) { 1 } else { 2 };
+        let order = 1 + random.below(3);
         let advance = random.below(65);
         let mut text = format!("order {order}\nadvance {advance}\ntune A3\n");
         for _ in 0..6 {
@@ -71,7 +72,7 @@ fn measured(samples: &[i32], hertz: f64) -> f64 {
 
 #[test]
 fn strings_sound_at_the_pitch_that_is_told() {
-    for order in [1, 2] {
+    for order in ORDERS {
         for name in ["E2", "A3", "A4", "C#5", "A5", "E6", "A6+30c"] {
             let text =
                 format!("order {order}\nloss 0.9999\ntune {name}\npluck 120 for 60\nwait 1.2s\n");

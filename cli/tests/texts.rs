@@ -5,8 +5,8 @@ mod common;
 use common::Random;
 use jivaszte::text::{compile, show, Compiled};
 
-const HEADINGS: [&str; 7] =
-    ["rate 48000", "order 2", "order 1", "advance 10", "loss 0.99", "tempo 90", ""];
+const HEADINGS: [&str; 8] =
+    ["rate 48000", "order 2", "order 3", "order 1", "advance 10", "loss 0.99", "tempo 90", ""];
 const NOTES: [&str; 10] = [
     "A4",
     "C#4",

@@ -29,13 +29,14 @@ impl Allpass {
         &self.state
     }
 
-    /// "w = f − R(A1·v1 + A2·v2)."
+    /// "w = f − R(A1·v1 + A2·v2)." "A3·v3 joins the sum inside R in w" (document 02, L5).
     fn w(&self, f: i128) -> i128 {
         f - r(dot(self.coefficients.iter(), self.state.iter()))
     }
 
-    /// "Order 1 puts out clip(v1 + R(A1·w)). Order 2 puts out clip(v2 + R(A2·w + A1·v1))." In
-    /// order N: clip(vN + R(AN·w + A(N − 1)·v1 + ... + A1·v(N − 1))).
+    /// "Order 1 puts out clip(v1 + R(A1·w)). Order 2 puts out clip(v2 + R(A2·w + A1·v1))." Order 3
+    /// "puts out clip(v3 + R(A3·w + A2·v1 + A1·v2))" (document 02, L5). In order N:
+    /// clip(vN + R(AN·w + A(N − 1)·v1 + ... + A1·v(N − 1))).
     fn output(&self, w: i128) -> i128 {
         let last = self.state[self.state.len() - 1];
         let shifted = std::iter::once(&w).chain(self.state.iter());

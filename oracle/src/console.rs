@@ -28,9 +28,9 @@ fn join<T: Display>(name: &str, values: impl IntoIterator<Item = T>) -> String {
     text
 }
 
-/// The first two entries of a filter state, 0 where the order has fewer.
-fn two(state: &[i128]) -> [i128; 2] {
-    [0, 1].map(|index| state.get(index).copied().unwrap_or(0))
+/// The first three entries of a filter state, 0 where the order has fewer.
+fn three(state: &[i128]) -> [i128; 3] {
+    [0, 1, 2].map(|index| state.get(index).copied().unwrap_or(0))
 }
 
 /// `record R MAP WAIT L D G AMPLITUDE COUNT SEED REST`
@@ -72,23 +72,23 @@ impl Default for Console {
 }
 
 impl Console {
-    /// `state N L D G NA LAST V1 V2 WAITS L' D' TAKEN E1 E2 AMPLITUDE LEFT NOISE`: WAITS is the
-    /// kind, TAKEN is counted up to Na.
+    /// `state N L D G NA LAST V1 V2 V3 WAITS L' D' TAKEN E1 E2 E3 AMPLITUDE LEFT NOISE`: WAITS is
+    /// the kind, TAKEN is counted up to Na.
     fn answer_state(&self) -> String {
         let voice = &self.voice;
         let mut values =
             [voice.order, voice.tuning.length, voice.tuning.delay].map(i128::from).to_vec();
         values.extend([voice.loss, voice.advance].map(i128::from));
         values.push(voice.last_output());
-        values.extend(two(voice.tuning.filter.state()));
+        values.extend(three(voice.tuning.filter.state()));
         match &voice.waiting {
             Some(change) => {
                 let (length, delay) = (change.tuning.length, change.tuning.delay);
                 let taken = change.counted(voice.advance);
                 values.extend([change.kind as u32, length, delay, taken].map(i128::from));
-                values.extend(two(change.tuning.filter.state()));
+                values.extend(three(change.tuning.filter.state()));
             }
-            None => values.extend([0; 6]),
+            None => values.extend([0; 7]),
         }
         match voice.pluck.left {
             0 => values.extend([0; 3]),

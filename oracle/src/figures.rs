@@ -4,7 +4,7 @@ use crate::allpass::{effective_length, Allpass};
 use crate::noise::draw;
 use crate::note::note;
 use crate::player::play;
-use crate::refusal::number;
+use crate::refusal::{number, Answer};
 use crate::thiran::coefficients;
 use crate::voice::Voice;
 
@@ -31,20 +31,38 @@ fn figure(name: &str, paper: &[i128], computed: &[i128]) -> Figure {
     Figure { name: name.to_string(), paper: row(paper), computed: row(computed) }
 }
 
-/// "d 2,049: A1 21,831", order 1, and the rows of order 2.
+/// What a row of coefficients is about.
+fn name(order: u32, d: u32) -> String {
+    format!("order {order}, d {d}: answer, A1, A2, A3")
+}
+
+/// The number of an answer, and the coefficients behind it.
+fn answered(answer: &Answer, [a1, a2, a3]: [i128; 3]) -> [i128; 4] {
+    [i128::from(number(answer)), a1, a2, a3]
+}
+
+/// "d 2,049: A1 21,831", order 1, the rows of order 2, and those of order 3 that L5 asks for, worked
+/// out by hand from 002 equation (3).
 fn coefficient_figures() -> Vec<Figure> {
     let order_1 = [(2_049, 21_831), (4_096, 0), (6_144, -13_107), (2_979, 10_347)];
     let order_2 = [(6_145, [26_199, -1_872]), (10_240, [-18_725, 3_121]), (8_192, [0, 0])];
+    let order_3 =
+        [(10_241, [28_071, -3_120, 284]), (12_288, [0, 0, 0]), (14_336, [-21_845, 5_958, -764])];
     let mut figures = Vec::new();
     for (d, a1) in order_1 {
         let (answer, values) = coefficients(1, d);
-        let computed = [i128::from(number(&answer)), values[0], values[1]];
-        figures.push(figure(&format!("order 1, d {d}: answer, A1, A2"), &[0, a1, 0], &computed));
+        let computed = answered(&answer, values);
+        figures.push(figure(&name(1, d), &[0, a1, 0, 0], &computed));
     }
     for (d, [a1, a2]) in order_2 {
         let (answer, values) = coefficients(2, d);
-        let computed = [i128::from(number(&answer)), values[0], values[1]];
-        figures.push(figure(&format!("order 2, d {d}: answer, A1, A2"), &[0, a1, a2], &computed));
+        let computed = answered(&answer, values);
+        figures.push(figure(&name(2, d), &[0, a1, a2, 0], &computed));
+    }
+    for (d, [a1, a2, a3]) in order_3 {
+        let (answer, values) = coefficients(3, d);
+        let computed = answered(&answer, values);
+        figures.push(figure(&name(3, d), &[0, a1, a2, a3], &computed));
     }
     figures
 }
@@ -95,8 +113,7 @@ fn length_figure(order: u32, d: u32, threshold: u32, paper: i128) -> Figure {
 /// "d 2,048 is refused by 3 in order 1; 6,144 in order 2."
 fn refusal_figure(order: u32, d: u32) -> Figure {
     let (answer, values) = coefficients(order, d);
-    let computed = [i128::from(number(&answer)), values[0], values[1]];
-    figure(&format!("order {order}, d {d}: answer, A1, A2"), &[3, 0, 0], &computed)
+    figure(&name(order, d), &[3, 0, 0, 0], &answered(&answer, values))
 }
 
 /// "it prints 0, 0, 0, 0, -17298, 0, 0, 0, -4324, -4324, then `end 0 2 10`."

@@ -10,16 +10,21 @@ pub const SAMPLE: i128 = 4_096;
 /// "A1 and A2 are 65,536 times a1 and a2".
 const UNIT: i128 = 65_536;
 
-/// "The order N is 1 or 2." Refusal 1.
+/// "The order N is 1 or 2"; "an order outside 1 to 3" is refused (document 02, L5).
+pub const ORDERS: RangeInclusive<u32> = 1..=3;
+
+/// Refusal 1.
 pub fn test_order(order: u32) -> Answer {
-    require((1..=2).contains(&order), Refusal::Order)
+    require(ORDERS.contains(&order), Refusal::Order)
 }
 
-/// "Order 1 takes d from 2,049 to 6,144, order 2 from 6,145 to 10,240."
+/// "Order 1 takes d from 2,049 to 6,144, order 2 from 6,145 to 10,240." "Order 3 takes d from 10,241
+/// to 14,336" (document 02, L5).
 pub fn delay_range(order: u32) -> RangeInclusive<u32> {
     match order {
         1 => 2_049..=6_144,
         2 => 6_145..=10_240,
+        3 => 10_241..=14_336,
         _ => panic!("the order is tested first"),
     }
 }
@@ -59,10 +64,11 @@ pub fn exact_coefficients(order: u32, d: u32) -> Vec<i128> {
     (1..=order).map(one).collect()
 }
 
-/// The call. "Coefficients: 1, 3; both come back 0." In order 1, "a2 = 0".
-pub fn coefficients(order: u32, d: u32) -> (Answer, [i128; 2]) {
+/// The call. "Coefficients: 1, 3; both come back 0." "Coefficient calls return A3 too, 0 when refused;
+/// A3 and v3 are 0 below order 3" (document 02, L5). In order 1, "a2 = 0".
+pub fn coefficients(order: u32, d: u32) -> (Answer, [i128; 3]) {
     let answer = test_order(order).and_then(|()| test_delay(order, d));
-    let mut values = [0, 0];
+    let mut values = [0; 3];
     if answer.is_ok() {
         for (value, coefficient) in values.iter_mut().zip(exact_coefficients(order, d)) {
             *value = coefficient;

@@ -18,10 +18,10 @@ fn an_ask_waits_past_the_advance() {
         "ask 0",
         "commit 20",
         "commit 20",
-        "state 1 3 4096 65535 2 0 0 0 2 2 6144 1 0 0 0 0 0",
-        "state 1 3 4096 65535 2 0 0 0 2 2 6144 2 8 0 0 0 0",
+        "state 1 3 4096 65535 2 0 0 0 0 2 2 6144 1 0 0 0 0 0 0",
+        "state 1 3 4096 65535 2 0 0 0 0 2 2 6144 2 8 0 0 0 0 0",
         "commit 0",
-        "state 1 2 6144 65535 2 0 8 0 0 0 0 0 0 0 0 0 0",
+        "state 1 2 6144 65535 2 0 8 0 0 0 0 0 0 0 0 0 0 0 0",
         "commit 21",
         "withdraw 21",
     ];
@@ -34,9 +34,9 @@ fn an_ask_waits_with_an_advance_of_0() {
     let expected = [
         "open 0",
         "ask 0",
-        "state 1 3 4096 65535 0 0 0 0 2 2 6144 0 0 0 0 0 0",
+        "state 1 3 4096 65535 0 0 0 0 0 2 2 6144 0 0 0 0 0 0 0",
         "commit 0",
-        "state 1 2 6144 65535 0 0 0 0 0 0 0 0 0 0 0 0 0",
+        "state 1 2 6144 65535 0 0 0 0 0 0 0 0 0 0 0 0 0 0 0",
     ];
     assert_eq!(answered(lines), expected);
 }
@@ -64,9 +64,9 @@ fn an_announced_change_is_nothing_asked() {
         "commit 21",
         "withdraw 21",
         "commit 21",
-        "state 1 3 4096 65535 2 0 0 0 1 2 6144 1 0 0 0 0 0",
+        "state 1 3 4096 65535 2 0 0 0 0 1 2 6144 1 0 0 0 0 0 0",
         "commit 21",
-        "state 1 2 6144 65535 2 0 0 0 0 0 0 0 0 0 0 0 0",
+        "state 1 2 6144 65535 2 0 0 0 0 0 0 0 0 0 0 0 0 0 0",
     ];
     assert_eq!(answered(lines), expected);
 }
@@ -74,19 +74,22 @@ fn an_announced_change_is_nothing_asked() {
 /// "An announced change acts as an ask that commits itself": when the eliminator has taken Na.
 #[test]
 fn a_commit_on_the_sample_is_an_announced_change() {
-    for advance in [0, 1, 2, 24, 64] {
+    let tunings = [(2, 7_000, 6_200), (3, 11_000, 14_000)];
+    for (advance, (order, old, new)) in
+        [0, 1, 2, 24, 64].into_iter().flat_map(|advance| tunings.map(|tuning| (advance, tuning)))
+    {
         let zeros = " 0".repeat(advance);
-        let start =
-            format!("open 2 9 7000 65535 {advance}; pluck 99 200 5; block 90{}", " 0".repeat(90));
+        let opening = format!("open {order} 9 {old} 65535 {advance}");
+        let start = format!("{opening}; pluck 99 200 5; block 90{}", " 0".repeat(90));
         let end = format!("state; line 200; block 30{}; state", " 0".repeat(30));
-        let announced = format!("{start}; announce 8 6200; block {advance}{zeros}; {end}");
-        let asked = format!("{start}; ask 8 6200; block {advance}{zeros}; commit; {end}");
+        let announced = format!("{start}; announce 8 {new}; block {advance}{zeros}; {end}");
+        let asked = format!("{start}; ask 8 {new}; block {advance}{zeros}; commit; {end}");
         let shown = |lines: &str| {
             let all = answers(lines.replace("; ", "\n").as_bytes());
             let of_call = |line: &&str| !line.starts_with("a") && !line.starts_with("commit");
             all.lines().filter(of_call).map(str::to_string).collect::<Vec<_>>()
         };
-        assert_eq!(shown(&announced), shown(&asked), "Na {advance}");
+        assert_eq!(shown(&announced), shown(&asked), "order {order}, Na {advance}");
         assert!(shown(&asked)[5].starts_with("line"));
     }
 }

@@ -12,7 +12,7 @@ fn assert_answers(lines: &[(&str, &str)]) {
 #[test]
 fn a_voice() {
     assert_answers(&[
-        ("state", "state 1 1 4096 0 0 0 0 0 0 0 0 0 0 0 0 0 0"),
+        ("state", "state 1 1 4096 0 0 0 0 0 0 0 0 0 0 0 0 0 0 0 0"),
         ("open 1 3 4096 32768 2", "open 0"),
         ("block 6 1000 0 0 0 0 0", "block 0 0 0 0 0 1000 0"),
         ("line 3", "line 250 250 0"),
@@ -21,7 +21,7 @@ fn a_voice() {
         ("instant 2 6144", "instant 6 0"),
         ("pluck 1 3 0", "pluck 0"),
         ("block 1 0", "block 0 0"),
-        ("state", "state 1 3 4096 32768 2 0 0 0 1 2 6144 1 250 0 1 2 1013904223"),
+        ("state", "state 1 3 4096 32768 2 0 0 0 0 1 2 6144 1 250 0 0 1 2 1013904223"),
         ("block 2 0", "block 9 77 77"),
         ("block 1 8388608", "block 10 77"),
         ("loss 65536", "loss 4"),
@@ -32,18 +32,19 @@ fn a_voice() {
         ("withdraw", "withdraw 21"),
         ("commit", "commit 21"),
         ("ask 9 2049", "ask 0"),
-        ("state", "state 1 1 4096 0 0 0 0 0 2 9 2049 0 0 0 0 0 0"),
+        ("state", "state 1 1 4096 0 0 0 0 0 0 2 9 2049 0 0 0 0 0 0 0"),
         ("commit", "commit 0"),
         ("instant 7 2049", "instant 0 0"),
-        ("state", "state 1 7 2049 0 0 0 0 0 0 0 0 0 0 0 0 0 0"),
+        ("state", "state 1 7 2049 0 0 0 0 0 0 0 0 0 0 0 0 0 0 0 0"),
     ]);
 }
 
 #[test]
 fn routines() {
     assert_answers(&[
-        ("coefficients 2 6145", "coefficients 0 26199 -1872"),
-        ("coefficients 3 6145", "coefficients 1 0 0"),
+        ("coefficients 2 6145", "coefficients 0 26199 -1872 0"),
+        ("coefficients 3 6145", "coefficients 3 0 0 0"),
+        ("coefficients 4 6145", "coefficients 1 0 0 0"),
         ("length 2 9159 1000", "length 0 4"),
         ("note 2 44100 69", "note 0 98 7075"),
         ("draw 0", "draw -17298 1013904223"),
@@ -62,7 +63,7 @@ fn lines_that_are_not_right() {
                 block 4097\nrun 16385\nrecord 1\ndraw 4294967296\nDraw 1\ncommit 1\n\
                 withdraw 0\nask 3\nloss 007";
     let expected =
-        "error 3\nstate 1 1 4096 0 0 0 0 0 0 0 0 0 0 0 0 0 0\nerror 6\nerror 7\nerror 8\n\
+        "error 3\nstate 1 1 4096 0 0 0 0 0 0 0 0 0 0 0 0 0 0 0 0\nerror 6\nerror 7\nerror 8\n\
                     error 9\nerror 10\nerror 11\nerror 12\nerror 13\nerror 14\nerror 15\nerror 16\nloss 0\n";
     assert_eq!(answers(text.as_bytes()), expected);
 }

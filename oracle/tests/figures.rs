@@ -1,4 +1,4 @@
-//! The checked figures of document 01 and the player's example.
+//! The checked figures of document 01 and of document 02, L5, and the player's example.
 
 use oracle::console::answers;
 use oracle::figures::{figures, EXAMPLE};
@@ -7,7 +7,7 @@ use oracle::player::play;
 #[test]
 fn every_row_has_the_value_of_the_paper() {
     let figures = figures();
-    assert_eq!(figures.len(), 17);
+    assert_eq!(figures.len(), 20);
     for figure in figures {
         assert_eq!(figure.computed, figure.paper, "{}", figure.name);
     }

@@ -44,7 +44,9 @@ fn every_refusal_of_a_record_and_of_a_note_is_reached() {
     for number in [0, 1, 11, 12, 13] {
         assert!(notes.contains(&format!("number = {number};")), "{number}");
     }
-    for limit in ["L = 1;", "L = 2048;", "d = 2049 ", "d = 6144 ", "d = 6145 ", "d = 10240 "] {
+    let lengths = ["L = 1;", "L = 2048;"];
+    let delays = ["d = 2049 ", "d = 6144 ", "d = 6145 ", "d = 10240 ", "d = 10241 ", "d = 14336 "];
+    for limit in lengths.into_iter().chain(delays) {
         assert!(notes.contains(limit), "{limit}");
     }
 }

@@ -1,7 +1,7 @@
 //! `advance`: what each advance buys.
 
 use crate::arguments::Arguments;
-use crate::click::{best_advance, figure, MOST_ADVANCE};
+use crate::click::{best_advance, figure, samples_to_best, MOST_ADVANCE};
 use crate::failure::{Failure, Outcome};
 use crate::files::print;
 use crate::number::{decibels, grouped};
@@ -39,7 +39,8 @@ fn figures(order: u32) -> String {
         "units",
         "dB"
     );
-    for advance in (0..=best_advance(order)).step_by(order as usize) {
+    let best = best_advance(order);
+    for advance in (0..=best).filter(|advance| advance % order == 0 || *advance == best) {
         let units = figure(order, advance);
         let _ = writeln!(text, "{advance:>4} {:>12} {:>9.1}", grouped(units.into()), level(units));
     }
@@ -67,8 +68,12 @@ fn lengths(order: u32, delay: Option<u32>) -> String {
 fn advice(order: u32) -> String {
     let best = best_advance(order);
     let quiet = (0..=MOST_ADVANCE).find(|&advance| level(figure(order, advance)) < SIXTEEN_BITS);
-    let mut text =
-        format!("Take Na {best}: more buys nothing, and an announced change waits longer.\n");
+    let mut text = match samples_to_best(order, best) {
+        0 => format!("Take Na {best}: more buys nothing, and an announced change waits longer.\n"),
+        samples => format!(
+            "Take Na {best}, the most there is: {samples} samples after a change the figure is 2.\n"
+        ),
+    };
     if let Some(quiet) = quiet {
         let _ =
             writeln!(text, "From Na {quiet} on a click is below the step of a 16-bit recording.");

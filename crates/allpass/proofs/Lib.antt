@@ -2,6 +2,7 @@ pub mod Bounds
 pub mod Contraction
 pub mod Orders
 pub mod Stored
+mod Sums
 mod Last
 pub mod Taken
 pub mod Returns

@@ -8,21 +8,25 @@ use native.Mathlib.Omega.{arith}
 use native.Mathlib.Decide.{ℕ-discrete}
 use borrow.Author.Tests.{eq-eqb, ne-eqb, ltb-true, ltb-false}
 use lib.Dec.{ltb, eqb}
-use lib.IntN.{ℤ, pos, natAbs, _+ℤ_, _-ℤ_, _*ℤ_, +ℤ-idr, *ℤ-comm, zero-*ℤ}
-use lib.ListN.{length, getD, replicate}
-use Rattle.integer.specs.Rounding.{floor, R}
-use Rattle.refusal.specs.Limits.{Between, refusal}
-use Rattle.refusal.specs.Orders.{Takes}
-use Rattle.refusal.specs.Ranges.{order-1, order-2, OrderDelay}
+use lib.IntN.{ℤ, pos, natAbs, _+ℤ_, _-ℤ_, _*ℤ_, +ℤ-idr, +ℤ-assoc, zero-*ℤ}
+use lib.ListN.{length, take, getD, replicate}
+use Rattle.integer.specs.Rounding.{R}
+use Rattle.refusal.specs.Limits.{refusal}
+use Rattle.refusal.specs.Orders.{orders}
+use Rattle.refusal.specs.Ranges.{InRange, OrderDelay}
 use Rattle.refusal.proofs.Ranges.{ranges, order-delay}
-use Rattle.thiran.specs.Coefficients.{coefficient, coefficients}
+use Rattle.thiran.specs.Coefficients.{coefficients}
 use Rattle.thiran.specs.Answers.{limits, design}
 use Rattle.thiran.specs.declared.Design.{Design}
+use Rattle.thiran.proofs.Lists.{length-coefficients}
 use Rattle.thiran.proofs.Refusals.{takes-0, design-taken}
-use Rattle.allpass.specs.Allpass.{inner, next, inners}
+use Rattle.allpass.specs.Allpass.{dot, rest, shift, inner, next, inners}
 use Rattle.allpass.specs.Length.{response, lastAbove, effectiveLength}
 use Rattle.allpass.specs.Returns.{Last, fades, values, Returns}
+use Rattle.allpass.specs.Stored.{stored}
 use Rattle.allpass.specs.declared.Measured.{Measured}
+use Rattle.allpass.proofs.Bounds.{inner-rest}
+use Rattle.allpass.proofs.Stored.{held-rest}
 
 -- ---- by the number
 module _ (N d t : ℕ) where
@@ -96,89 +100,85 @@ module _ (t : ℕ) where
       go (yes z) f = z
       go (no z) f = absurd (omega (arith, e (omega arith), f (n - 1)))
 
--- ---- the values
-fades-1 : (a1 v1 v2 : ℤ) (n : ℕ) → inners (a1 ∷ []) (v1 ∷ []) (replicate n (pos 0)) ≡ fades a1 (pos 0) v1 v2 n
-unfolding inner next fades
-fades-1 a1 v1 v2 zero = refl
-fades-1 a1 v1 v2 (suc n) =
-    rw (zero-*ℤ v2) (ap (λ (ws : List ℤ). (pos 0 -ℤ R (a1 *ℤ v1 +ℤ pos 0)) ∷ ws)
-    (fades-1 a1 (pos 0 -ℤ R (a1 *ℤ v1 +ℤ pos 0)) v1 n))
+-- ---- the values: of coefficients A, which are 0 past their order, and as many of the numbers v1, v2, v3
+abbrev at : List ℤ → ℕ → ℤ
+at A i = getD A i (pos 0)
 
-fades-2 : (a1 a2 v1 v2 : ℤ) (n : ℕ)
-    → inners (a1 ∷ a2 ∷ []) (v1 ∷ v2 ∷ []) (replicate n (pos 0)) ≡ fades a1 a2 v1 v2 n
-unfolding inner next fades
-fades-2 a1 a2 v1 v2 zero = refl
-fades-2 a1 a2 v1 v2 (suc n) =
-    simp +ℤ-idr (ap (λ (ws : List ℤ). (pos 0 -ℤ R (a1 *ℤ v1 +ℤ a2 *ℤ v2)) ∷ ws)
-    (fades-2 a1 a2 (pos 0 -ℤ R (a1 *ℤ v1 +ℤ a2 *ℤ v2)) v1 n))
+dot-is : (A : List ℤ) (v1 v2 v3 : ℤ) → length A ≤ orders
+    → dot A (take (length A) (v1 ∷ v2 ∷ v3 ∷ [])) ≡ at A 0 *ℤ v1 +ℤ at A 1 *ℤ v2 +ℤ at A 2 *ℤ v3
+dot-is [] v1 v2 v3 h = rw (zero-*ℤ v1, zero-*ℤ v2, zero-*ℤ v3)
+dot-is (x ∷ []) v1 v2 v3 h = rw (zero-*ℤ v2, zero-*ℤ v3) (sym (+ℤ-idr (x *ℤ v1 +ℤ pos 0)))
+dot-is (x ∷ y ∷ []) v1 v2 v3 h = rw (zero-*ℤ v3) (simp (+ℤ-idr))
+dot-is (x ∷ y ∷ z ∷ []) v1 v2 v3 h = simp (+ℤ-idr, +ℤ-assoc)
+dot-is (x ∷ y ∷ z ∷ u ∷ A) v1 v2 v3 h = absurd (omega arith)
 
-times-0 : (z : ℤ) → z *ℤ pos 0 ≡ pos 0
-times-0 z = *ℤ-comm z (pos 0) ∙ zero-*ℤ z
+shift-is : (N : ℕ) (w v1 v2 v3 : ℤ) → N ≤ orders
+    → shift w (take N (v1 ∷ v2 ∷ v3 ∷ [])) ≡ take N (w ∷ v1 ∷ v2 ∷ [])
+shift-is zero w v1 v2 v3 h = refl
+shift-is (suc zero) w v1 v2 v3 h = refl
+shift-is (suc (suc zero)) w v1 v2 v3 h = refl
+shift-is (suc (suc (suc zero))) w v1 v2 v3 h = refl
+shift-is (suc (suc (suc (suc N)))) w v1 v2 v3 h = absurd (omega arith)
 
--- the first value, and n more
-first-1 : (a1 : ℤ) (n : ℕ)
-    → inners (a1 ∷ []) (pos 0 ∷ []) (pos 1000000 ∷ replicate n (pos 0))
-    ≡ pos 1000000 ∷ fades a1 (pos 0) (pos 1000000) (pos 0) n
-unfolding inner next floor R
-first-1 a1 n = rw (times-0 a1) (ap (λ (ws : List ℤ). pos 1000000 ∷ ws) (fades-1 a1 (pos 1000000) (pos 0) n))
+module _ (A : List ℤ) (h : length A ≤ orders) where
+  fades-are : (v1 v2 v3 : ℤ) (n : ℕ)
+      → inners A (take (length A) (v1 ∷ v2 ∷ v3 ∷ [])) (replicate n (pos 0))
+      ≡ fades (at A 0) (at A 1) (at A 2) v1 v2 v3 n
+  unfolding inner next fades
+  fades-are v1 v2 v3 zero = refl
+  fades-are v1 v2 v3 (suc n) =
+      let w = pos 0 -ℤ R (at A 0 *ℤ v1 +ℤ at A 1 *ℤ v2 +ℤ at A 2 *ℤ v3) in
+      rw (dot-is A v1 v2 v3 h, shift-is (length A) w v1 v2 v3 h)
+      (ap (λ (ws : List ℤ). w ∷ ws) (fades-are w v1 v2 n))
 
-first-2 : (a1 a2 : ℤ) (n : ℕ)
-    → inners (a1 ∷ a2 ∷ []) (pos 0 ∷ pos 0 ∷ []) (pos 1000000 ∷ replicate n (pos 0))
-    ≡ pos 1000000 ∷ fades a1 a2 (pos 1000000) (pos 0) n
-unfolding inner next floor R
-first-2 a1 a2 n =
-    rw (times-0 a1, times-0 a2)
-    (ap (λ (ws : List ℤ). pos 1000000 ∷ ws) (fades-2 a1 a2 (pos 1000000) (pos 0) n))
+  -- the first value, and n more
+  first-are : (n : ℕ)
+      → inners A (rest (length A)) (pos 1000000 ∷ replicate n (pos 0))
+      ≡ pos 1000000 ∷ fades (at A 0) (at A 1) (at A 2) (pos 1000000) (pos 0) (pos 0) n
+  unfolding next stored
+  first-are n =
+      let f = pos 1000000 in
+      rw (
+        inner-rest A (length A) f,
+        ← held-rest (length A) h,
+        shift-is (length A) f (pos 0) (pos 0) (pos 0) h,
+        fades-are f (pos 0) (pos 0) n,
+      )
 
-response-1 : (a1 : ℤ) → response (a1 ∷ []) 1 ≡ values a1 (pos 0)
-unfolding response values
-response-1 a1 = first-1 a1 63
+  values-are : response A (length A) ≡ values (at A 0) (at A 1) (at A 2)
+  unfolding response values
+  values-are = first-are 63
 
-response-2 : (a1 a2 : ℤ) → response (a1 ∷ a2 ∷ []) 2 ≡ values a1 a2
-unfolding response values
-response-2 a1 a2 = first-2 a1 a2 63
-
-fades-many : (a1 a2 v1 v2 : ℤ) (n : ℕ) → length (fades a1 a2 v1 v2 n) ≡ n
+fades-many : (a1 a2 a3 v1 v2 v3 : ℤ) (n : ℕ) → length (fades a1 a2 a3 v1 v2 v3 n) ≡ n
 unfolding fades
-fades-many a1 a2 v1 v2 zero = refl
-fades-many a1 a2 v1 v2 (suc n) = ap suc (fades-many a1 a2 (pos 0 -ℤ R (a1 *ℤ v1 +ℤ a2 *ℤ v2)) v1 n)
+fades-many a1 a2 a3 v1 v2 v3 zero = refl
+fades-many a1 a2 a3 v1 v2 v3 (suc n) =
+    ap suc (fades-many a1 a2 a3 (pos 0 -ℤ R (a1 *ℤ v1 +ℤ a2 *ℤ v2 +ℤ a3 *ℤ v3)) v1 v2 n)
 
-many : (a1 a2 : ℤ) → length (values a1 a2) ≡ 64
+many : (a1 a2 a3 : ℤ) → length (values a1 a2 a3) ≡ 64
 unfolding values
-many a1 a2 = ap suc (fades-many a1 a2 (pos 1000000) (pos 0) 63)
+many a1 a2 a3 = ap suc (fades-many a1 a2 a3 (pos 1000000) (pos 0) (pos 0) 63)
 
 -- ---- what the routine returns
--- the last of the values ws, where they are the response
-last : (N d t : ℕ) (ws : List ℤ) → Takes N d → response (coefficients N d) N ≡ ws
-    → Last t ws (effectiveLength N d t .length)
-last N d t ws k e =
-    let c : lastAbove t ws ≡ effectiveLength N d t .length =
-    sym (ap (λ (r : Measured). r .length) (taken N d t (takes-0 N d k)) ∙ ap (lastAbove t) e) in
-    subst (λ (n : ℕ). Last t ws n) c (lasts t ws (lastAbove t ws) (ends t ws))
-
-module _ (d t : ℕ) where
-  first : Between 2049 d 6144 → Last t (values (design 1 d .a1) (pos 0)) (effectiveLength 1 d t .length)
-  unfolding coefficients
-  first b =
-      let k = ranges .takes 1 d .1 (order-1 b) in
-      last 1 d t (values (design 1 d .a1) (pos 0)) k
-      (response-1 (coefficient 1 d 1)
-      ∙ ap (λ (r : Design). values (r .a1) (pos 0)) (sym (design-taken 1 d k)))
-
-  second : Between 6145 d 10240
-      → Last t (values (design 2 d .a1) (design 2 d .a2)) (effectiveLength 2 d t .length)
-  unfolding coefficients
-  second b =
-      let k = ranges .takes 2 d .1 (order-2 b) in
-      last 2 d t (values (design 2 d .a1) (design 2 d .a2)) k
-      (response-2 (coefficient 2 d 1) (coefficient 2 d 2)
-      ∙ ap (λ (r : Design). values (r .a1) (r .a2)) (sym (design-taken 2 d k)))
+last : (N d t : ℕ) → InRange N d
+    → Last t (values (design N d .a1) (design N d .a2) (design N d .a3)) (effectiveLength N d t .length)
+last N d t i =
+    let k = ranges .takes N d .1 i in
+    let A = coefficients N d in
+    let ws = response A N in
+    let e : length A ≡ N = length-coefficients N d in
+    let v : ws ≡ values (at A 0) (at A 1) (at A 2) =
+    ap (response A) (sym e) ∙ values-are A (omega (arith, k .most)) in
+    let j = v ∙ ap (λ (r : Design). values (r .a1) (r .a2) (r .a3)) (sym (design-taken N d k)) in
+    subst (λ (l : List ℤ). Last t l (effectiveLength N d t .length)) j
+    (subst (λ (n : ℕ). Last t ws n)
+    (sym (ap (λ (r : Measured). r .length) (taken N d t (takes-0 N d k))))
+    (lasts t ws (lastAbove t ws) (ends t ws)))
 
 pub returns : Returns
 returns = record {
   number = λ N d t. subst (λ (n : ℕ). OrderDelay N d n) (number-is N d t) (order-delay N d);
   refused = refused;
   many = many;
-  order-1 = first;
-  order-2 = second;
+  last = last;
 }

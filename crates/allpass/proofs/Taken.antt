@@ -20,9 +20,6 @@ module _ (N d : ℕ) (t : Takes N d) (c : Coefficients) (e : c ≡ padded (coeff
       let A = coefficients N d in
       ap (λ (c : Coefficients). taps N c) e ∙ taps-padded N A (length-coefficients N d) (t .most)
 
-  pub taken-past : c ≡ padded (taps N c)
-  taken-past = rw taken-taps e
-
   pub taken-small : norm (taps N c) ≤ 32768
   taken-small = rw taken-taps (norm-coefficients N d t)
 

@@ -37,16 +37,28 @@ pub record Bounded (A : List ℤ) : Type 0 where
       (k : ℕ) (fs v u : List ℤ) → length v * k ≤ length fs → Close (2 ^ 24) v u
       → Close (2 ^ (24 - k)) (run A v fs) (run A u fs)
 
--- document 01's own lines at order 1
+-- document 01's own lines at order 1,
 pub record Order1 (a1 v1 f : ℤ) : Type 0 where
   pub w : inner (a1 ∷ []) (v1 ∷ []) f ≡ f -ℤ R (a1 *ℤ v1)
   pub output : out (a1 ∷ []) (v1 ∷ []) f ≡ clip (v1 +ℤ R (a1 *ℤ inner (a1 ∷ []) (v1 ∷ []) f))
   pub state : next (a1 ∷ []) (v1 ∷ []) f ≡ inner (a1 ∷ []) (v1 ∷ []) f ∷ []
 
--- and at order 2
+-- at order 2,
 pub record Order2 (a1 a2 v1 v2 f : ℤ) : Type 0 where
   pub w : inner (a1 ∷ a2 ∷ []) (v1 ∷ v2 ∷ []) f ≡ f -ℤ R (a1 *ℤ v1 +ℤ a2 *ℤ v2)
   pub output :
       out (a1 ∷ a2 ∷ []) (v1 ∷ v2 ∷ []) f
       ≡ clip (v2 +ℤ R (a2 *ℤ inner (a1 ∷ a2 ∷ []) (v1 ∷ v2 ∷ []) f +ℤ a1 *ℤ v1))
   pub state : next (a1 ∷ a2 ∷ []) (v1 ∷ v2 ∷ []) f ≡ inner (a1 ∷ a2 ∷ []) (v1 ∷ v2 ∷ []) f ∷ v1 ∷ []
+
+-- and document 02's at order 3 (L5): "A3·v3 joins the sum inside R in w, and it puts out clip(v3 + R(A3·w +
+-- A2·v1 + A1·v2))"
+pub record Order3 (a1 a2 a3 v1 v2 v3 f : ℤ) : Type 0 where
+  pub w :
+      inner (a1 ∷ a2 ∷ a3 ∷ []) (v1 ∷ v2 ∷ v3 ∷ []) f ≡ f -ℤ R (a1 *ℤ v1 +ℤ a2 *ℤ v2 +ℤ a3 *ℤ v3)
+  pub output :
+      out (a1 ∷ a2 ∷ a3 ∷ []) (v1 ∷ v2 ∷ v3 ∷ []) f
+      ≡ clip (v3 +ℤ R (a3 *ℤ inner (a1 ∷ a2 ∷ a3 ∷ []) (v1 ∷ v2 ∷ v3 ∷ []) f +ℤ a2 *ℤ v1 +ℤ a1 *ℤ v2))
+  pub state :
+      next (a1 ∷ a2 ∷ a3 ∷ []) (v1 ∷ v2 ∷ v3 ∷ []) f
+      ≡ inner (a1 ∷ a2 ∷ a3 ∷ []) (v1 ∷ v2 ∷ v3 ∷ []) f ∷ v1 ∷ v2 ∷ []

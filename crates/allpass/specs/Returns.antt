@@ -7,8 +7,7 @@ use Prim.Native.Nat.{ℕ, zero, suc, _-_, _≤_, _<_}
 use lib.IntN.{ℤ, pos, natAbs, _+ℤ_, _-ℤ_, _*ℤ_}
 use lib.ListN.{length, getD}
 use Rattle.integer.specs.Rounding.{R}
-use Rattle.refusal.specs.Limits.{Between}
-use Rattle.refusal.specs.Ranges.{OrderDelay}
+use Rattle.refusal.specs.Ranges.{InRange, OrderDelay}
 use Rattle.thiran.specs.Answers.{design}
 use Rattle.allpass.specs.Length.{effectiveLength}
 
@@ -23,24 +22,23 @@ pub record Last (t : ℕ) (ws : List ℤ) (n : ℕ) : Type 0 where
   pub after : (i : ℕ) → n ≤ i → natAbs (value ws i) ≤ t
   pub none : n ≡ 0 ↔ ((i : ℕ) → natAbs (value ws i) ≤ t)
 
--- "w = f − R(A1·v1 + A2·v2)" with f = 0, "Then v2 becomes v1 and v1 becomes w": n values w of the eliminator
--- while it is fed zeros, from the state v1, v2; A2 is 0 in order 1
-unfoldable pub fades : ℤ → ℤ → ℤ → ℤ → ℕ → List ℤ
-fades a1 a2 v1 v2 zero = []
-fades a1 a2 v1 v2 (suc n) =
-    let w = pos 0 -ℤ R (a1 *ℤ v1 +ℤ a2 *ℤ v2) in
-    w ∷ fades a1 a2 w v1 n
+-- "w = f − R(A1·v1 + A2·v2)" with f = 0, where "A3·v3 joins the sum inside R" (L5), "Then v2 becomes v1 and
+-- v1 becomes w": n values w of the eliminator while it is fed zeros, from the state v1, v2, v3; the coefficients
+-- past the order are 0
+unfoldable pub fades : ℤ → ℤ → ℤ → ℤ → ℤ → ℤ → ℕ → List ℤ
+fades a1 a2 a3 v1 v2 v3 zero = []
+fades a1 a2 a3 v1 v2 v3 (suc n) =
+    let w = pos 0 -ℤ R (a1 *ℤ v1 +ℤ a2 *ℤ v2 +ℤ a3 *ℤ v3) in
+    w ∷ fades a1 a2 a3 w v1 v2 n
 
 -- "feed 1,000,000 and then 63 zeros to a resting eliminator": at rest w is f, since R(0) is 0
-unfoldable pub values : ℤ → ℤ → List ℤ
-values a1 a2 = pos 1000000 ∷ fades a1 a2 (pos 1000000) (pos 0) 63
+unfoldable pub values : ℤ → ℤ → ℤ → List ℤ
+values a1 a2 a3 = pos 1000000 ∷ fades a1 a2 a3 (pos 1000000) (pos 0) (pos 0) 63
 
 -- "Effective length: 1, 3; it returns 0"; else the last of "the 64 values w" that exceeds the threshold
 pub record Returns : Type 0 where
   pub number : (N d t : ℕ) → OrderDelay N d (effectiveLength N d t .refusal)
   pub refused : (N d t : ℕ) → (effectiveLength N d t .refusal ≡ 0 → ⊥) → effectiveLength N d t .length ≡ 0
-  pub many : (a1 a2 : ℤ) → length (values a1 a2) ≡ 64
-  pub order-1 : (d t : ℕ) → Between 2049 d 6144
-      → Last t (values (design 1 d .a1) (pos 0)) (effectiveLength 1 d t .length)
-  pub order-2 : (d t : ℕ) → Between 6145 d 10240
-      → Last t (values (design 2 d .a1) (design 2 d .a2)) (effectiveLength 2 d t .length)
+  pub many : (a1 a2 a3 : ℤ) → length (values a1 a2 a3) ≡ 64
+  pub last : (N d t : ℕ) → InRange N d
+      → Last t (values (design N d .a1) (design N d .a2) (design N d .a3)) (effectiveLength N d t .length)

@@ -1,5 +1,5 @@
-// One sample of the filter and of the eliminator. What differs by order is in `oldest`, `turned`, `shifted`.
-// A struct of coefficients or of a state holds 0 past the order, so that one sum of products serves both.
+// One sample of the filter and of the eliminator. What differs by order is in `oldest`, `turned`, `shifted`
+// and `weighed`, which has as many products as the order. A state holds 0 past the order.
 ghost use mathlib.Core.Path.{_≡_};
 ghost use mathlib.Core.List.{reverse};
 ghost use Prim.Native.Nat.{_*_, _≤_};
@@ -7,10 +7,10 @@ ghost use lib.IntN.{pos, _+ℤ_};
 ghost use Rattle.integer.specs.Rounding.{M, R, clip as Clip};
 ghost use Rattle.refusal.specs.Orders.{orders};
 ghost use Rattle.thiran.specs.Coefficients.{norm};
-ghost use Rattle.thiran.specs.Answers.{padded, listed, taps};
+ghost use Rattle.thiran.specs.Answers.{taps};
 ghost use Rattle.allpass.specs.Allpass.{dot, final, shift, inner as Inner, next, out};
 ghost use Rattle.allpass.specs.Bounds.{Within};
-ghost use Rattle.allpass.specs.Stored.{stored, entries, held, Fed};
+ghost use Rattle.allpass.specs.Stored.{stored, held, Fed};
 use crate::State;
 use integer::Value;
 use integer::clip;
@@ -31,18 +31,32 @@ fn oldest(order: u32, v: State) -> Value
     if order == 1 {
         return Value { n: v.v1 };
     }
-    Value { n: v.v2 }
+    if order == 2 {
+        return Value { n: v.v2 };
+    }
+    Value { n: v.v3 }
 }
 
 // AN, .. , A1.
 fn turned(order: u32, c: Coefficients) -> Coefficients
-    requires { ⌜ (1 ≤ order) × (order ≤ orders) × (c ≡ padded (taps order c)) ⌝ }
-    ensures { λ r. ⌜ r ≡ padded (reverse (taps order c)) ⌝ }
+    requires { ⌜ (1 ≤ order) × (order ≤ orders) ⌝ }
+    ensures { λ r. ⌜ taps order r ≡ reverse (taps order c) ⌝ }
 {
     if order == 1 {
         return c;
     }
-    Coefficients { a1: c.a2, a2: c.a1 }
+    if order == 2 {
+        return Coefficients {
+            a1: c.a2,
+            a2: c.a1,
+            a3: 0,
+        };
+    }
+    Coefficients {
+        a1: c.a3,
+        a2: c.a2,
+        a3: c.a1,
+    }
 }
 
 // w in front of v, and the last number dropped.
@@ -51,18 +65,42 @@ fn shifted(order: u32, v: State, w: Value) -> State
     ensures { λ r. ⌜ r ≡ stored (shift (w .n) (held order v)) ⌝ }
 {
     if order < 2 {
-        return State { v1: w.n, v2: 0 };
+        return State {
+            v1: w.n,
+            v2: 0,
+            v3: 0,
+        };
     }
-    State { v1: w.n, v2: v.v1 }
+    if order < 3 {
+        return State {
+            v1: w.n,
+            v2: v.v1,
+            v3: 0,
+        };
+    }
+    State {
+        v1: w.n,
+        v2: v.v1,
+        v3: v.v2,
+    }
 }
 
-// A1·v1 + A2·v2, rounded.
-fn weighed(c: Coefficients, v: State) -> Value
-    requires { ⌜ (norm (listed c) ≤ 32768) × Within (2 * M) (entries v) ⌝ }
-    ensures { λ r. ⌜ r .n ≡ R (dot (listed c) (entries v)) ⌝ }
+// A1·v1 + .. + AN·vN, rounded; the newest number of the state is added last.
+fn weighed(order: u32, c: Coefficients, v: State) -> Value
+    requires { ⌜ (1 ≤ order) × (order ≤ orders) × (norm (taps order c) ≤ 32768)
+        × Within (2 * M) (held order v) ⌝ }
+    ensures { λ r. ⌜ r .n ≡ R (dot (taps order c) (held order v)) ⌝ }
 {
+    if order == 1 {
+        return round_q16(Value { n: c.a1 * v.v1 });
+    }
+    if order == 2 {
+        return round_q16(Value {
+            n: c.a1 * v.v1 + c.a2 * v.v2,
+        });
+    }
     round_q16(Value {
-        n: c.a1 * v.v1 + c.a2 * v.v2,
+        n: c.a1 * v.v1 + (c.a2 * v.v2 + c.a3 * v.v3),
     })
 }
 
@@ -71,7 +109,7 @@ fn inner(order: u32, c: Coefficients, v: State, f: Value) -> Value
     requires { ⌜ Fed order c v (f .n) ⌝ }
     ensures { λ r. ⌜ r .n ≡ Inner (taps order c) (held order v) (f .n) ⌝ }
 {
-    let r = weighed(c, v);
+    let r = weighed(order, c, v);
     Value { n: f.n - r.n }
 }
 
@@ -90,7 +128,7 @@ fn output(order: u32, c: Coefficients, v: State, s: State) -> Value
     ensures { λ r. ⌜ r .n
         ≡ Clip (final (pos 0) (held order v) +ℤ R (dot (reverse (taps order c)) (held order s))) ⌝ }
 {
-    let r = weighed(turned(order, c), s);
+    let r = weighed(order, turned(order, c), s);
     let x = oldest(order, v);
     clip(Value { n: x.n + r.n })
 }

@@ -1,21 +1,35 @@
-// The allpass filter of order 1 or 2, its eliminator, and the effective length of its response.
+// The allpass filter of order 1, 2 or 3, its eliminator, and the effective length of its response.
 // Contracts cite the filter of order N over lists (specs/Allpass.antt), held in structs (specs/Stored.antt).
 pub mod filter;
 mod response;
 
 ghost use mathlib.Core.Path.{_≡_};
+ghost use mathlib.Core.List.{[]};
 ghost use Rattle.allpass.specs.Length.{effectiveLength};
+ghost use Rattle.allpass.specs.Stored.{stored};
 
-// v1 and v2; v2 is 0 in order 1.
+// v1, v2 and v3; 0 past the order.
 pub struct State {
     pub v1: i64,
     pub v2: i64,
+    pub v3: i64,
 }
 
 // What `effective_length` returns: refusal is 0 for success.
 pub struct Measured {
     pub refusal: u32,
     pub length: u32,
+}
+
+// The state of a filter at rest, of any order.
+pub fn at_rest() -> State
+    ensures { λ r. ⌜ r ≡ stored [] ⌝ }
+{
+    State {
+        v1: 0,
+        v2: 0,
+        v3: 0,
+    }
 }
 
 // The index of the last of the 64 values w that exceeds the threshold in magnitude, plus one, where 1,000,000

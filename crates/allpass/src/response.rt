@@ -7,9 +7,10 @@ ghost use lib.Dec.{ltb};
 ghost use lib.IntN.{natAbs};
 ghost use Rattle.refusal.specs.Orders.{orders};
 ghost use Rattle.thiran.specs.Coefficients.{norm};
-ghost use Rattle.thiran.specs.Answers.{padded, taps};
+ghost use Rattle.thiran.specs.Answers.{taps};
 ghost use Rattle.allpass.specs.Length.{response, lastAbove};
 use crate::State;
+use crate::at_rest;
 use crate::filter::eliminate;
 use integer::Value;
 use thiran::formula::Coefficients;
@@ -28,11 +29,10 @@ fn later(v: State, threshold: u32, index: u32, last: u32) -> u32
 
 // The index of the last of the 64 values w that is above the threshold in magnitude, plus one, else 0.
 pub fn last_loud(order: u32, c: Coefficients, threshold: u32) -> u32
-    requires { ⌜ (1 ≤ order) × (order ≤ orders) × (c ≡ padded (taps order c))
-        × (norm (taps order c) ≤ 32768) ⌝ }
+    requires { ⌜ (1 ≤ order) × (order ≤ orders) × (norm (taps order c) ≤ 32768) ⌝ }
     ensures { λ r. ⌜ r ≡ lastAbove threshold (response (taps order c) order) ⌝ }
 {
-    let mut v = eliminate(order, c, State { v1: 0, v2: 0 }, Value { n: 1_000_000 });
+    let mut v = eliminate(order, c, at_rest(), Value { n: 1_000_000 });
     let mut last = later(v, threshold, 0, 0);
     let mut index: u32 = 1;
     while index < 64 {

@@ -28,7 +28,8 @@ fn coefficients(buffer: &mut [u8; 4096], at: usize, l: Request) -> usize
     let r = thiran::coefficients(l.a, l.b);
     let a = short(buffer, at, r.refusal);
     let b = short_signed(buffer, a, r.a1);
-    short_signed(buffer, b, r.a2)
+    let c = short_signed(buffer, b, r.a2);
+    short_signed(buffer, c, r.a3)
 }
 
 fn length(buffer: &mut [u8; 4096], at: usize, l: Request) -> usize

@@ -13,10 +13,11 @@ use voice::Kind;
 use voice::Pluck;
 use voice::Waiting;
 
-// The two numbers of a filter's state; the second is 0 in order 1.
+// The three numbers of a filter's state, 0 past the order.
 fn held(buffer: &mut [u8; 4096], at: usize, s: State) -> usize {
     let a = signed(buffer, at, Value { n: s.v1 });
-    signed(buffer, a, Value { n: s.v2 })
+    let b = signed(buffer, a, Value { n: s.v2 });
+    signed(buffer, b, Value { n: s.v3 })
 }
 
 // 1 for an announced change, 2 for one that was asked for.
@@ -34,12 +35,13 @@ fn change(buffer: &mut [u8; 4096], at: usize, k: Kind, e: Filter, taken: u32) ->
     held(buffer, b, e.state)
 }
 
-// Six numbers: a change that waits, or 0 where none does.
+// Seven numbers: a change that waits, or 0 where none does.
 fn waiting(buffer: &mut [u8; 4096], at: usize, w: Waiting) -> usize {
     match w {
         Waiting::Idle => {
             let a = triple(buffer, at, 0, 0, 0);
-            triple(buffer, a, 0, 0, 0)
+            let b = short(buffer, a, 0);
+            triple(buffer, b, 0, 0, 0)
         }
         Waiting::Prepared(k, e, taken) => change(buffer, at, k, e, taken),
     }

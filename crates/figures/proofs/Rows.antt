@@ -28,8 +28,13 @@ rows = record {
   plucks = record { opening = refl; numbers = refl; counts = refl; outputs = refl; voice = refl; line = refl };
   halves1 = record { opening = refl; numbers = refl; counts = refl; outputs = refl; voice = refl; line = refl };
   halves2 = record { opening = refl; numbers = refl; counts = refl; outputs = refl; voice = refl; line = refl };
+  halves3 = record { opening = refl; numbers = refl; counts = refl; outputs = refl; voice = refl; line = refl };
   loss65535 = record { opening = refl; numbers = refl; counts = refl; outputs = refl; voice = refl; line = refl };
   loss65000 = record { opening = refl; numbers = refl; counts = refl; outputs = refl; voice = refl; line = refl };
+  waits3 = record { opening = refl; numbers = refl; counts = refl; outputs = refl; voice = refl; line = refl };
+  early3 = record { opening = refl; numbers = refl; counts = refl; outputs = refl; voice = refl; line = refl };
+  at-once3 = record { opening = refl; numbers = refl; counts = refl; outputs = refl; voice = refl; line = refl };
+  asked3 = record { opening = refl; numbers = refl; counts = refl; outputs = refl; voice = refl; line = refl };
   refused5 = record { opening = refl; numbers = refl; counts = refl; outputs = refl; voice = refl; line = refl };
   refused1 = record { opening = refl; numbers = refl; counts = refl; outputs = refl; voice = refl; line = refl };
 }

@@ -41,21 +41,25 @@ pub record Rows : Type 0 where
   pub openings :
       opens
       (record { N = 0; L = 0; d = 0; G = 65536; Na = 65 }
-      ∷ record { N = 3; L = 1; d = 4096; G = 0; Na = 0 }
+      ∷ record { N = 4; L = 1; d = 4096; G = 0; Na = 0 }
       ∷ record { N = 1; L = 0; d = 2048; G = 65536; Na = 65 }
       ∷ record { N = 2; L = 2049; d = 6145; G = 0; Na = 0 }
       ∷ record { N = 1; L = 1; d = 2048; G = 65536; Na = 65 }
       ∷ record { N = 1; L = 2048; d = 6145; G = 0; Na = 0 }
       ∷ record { N = 2; L = 1; d = 6144; G = 65536; Na = 65 }
       ∷ record { N = 2; L = 2048; d = 10241; G = 0; Na = 0 }
+      ∷ record { N = 3; L = 1; d = 10240; G = 65536; Na = 65 }
+      ∷ record { N = 3; L = 2048; d = 14337; G = 0; Na = 0 }
       ∷ record { N = 1; L = 1; d = 2049; G = 65536; Na = 65 }
       ∷ record { N = 2; L = 2048; d = 10240; G = 65535; Na = 65 }
       ∷ record { N = 1; L = 1; d = 2049; G = 0; Na = 0 }
       ∷ record { N = 1; L = 2048; d = 6144; G = 65535; Na = 64 }
       ∷ record { N = 2; L = 1; d = 6145; G = 0; Na = 64 }
       ∷ record { N = 2; L = 2048; d = 10240; G = 65535; Na = 0 }
+      ∷ record { N = 3; L = 1; d = 10241; G = 0; Na = 0 }
+      ∷ record { N = 3; L = 2048; d = 14336; G = 65535; Na = 64 }
       ∷ [])
-      ≡ 1 ∷ 1 ∷ 2 ∷ 2 ∷ 3 ∷ 3 ∷ 3 ∷ 3 ∷ 4 ∷ 5 ∷ 0 ∷ 0 ∷ 0 ∷ 0 ∷ []
+      ≡ 1 ∷ 1 ∷ 2 ∷ 2 ∷ 3 ∷ 3 ∷ 3 ∷ 3 ∷ 3 ∷ 3 ∷ 4 ∷ 5 ∷ 0 ∷ 0 ∷ 0 ∷ 0 ∷ 0 ∷ 0 ∷ []
   -- inputs at ±M: outputs and samples that clip, above and below; refusals 9 and 10
   pub clips :
       Row (record { N = 1; L = 1; d = 2049; G = 65535; Na = 0 })
@@ -460,6 +464,32 @@ pub record Rows : Type 0 where
             pos 58 ∷ pos 2189 ∷ pos 10030 ∷ pos 5263 ∷ negsuc 1836 ∷ pos 390 ∷ pos 32768 ∷ pos 0
             ∷ [];
       })
+  -- the same in order 3
+  pub halves3 :
+      Row (record { N = 3; L = 1; d = 14336; G = 32768; Na = 0 })
+      (block (pos 32768 ∷ pos 0 ∷ negsuc 2 ∷ negsuc 0 ∷ []) 4
+      ∷ block (pos 5 ∷ pos 0 ∷ pos 0 ∷ negsuc 32767 ∷ pos 0 ∷ []) 5
+      ∷ [])
+      (record {
+        opening = 0;
+        numbers = 0 ∷ 0 ∷ [];
+        counts = 0 ∷ 0 ∷ [];
+        outputs =
+            pos 0 ∷ negsuc 381 ∷ pos 2853 ∷ negsuc 9952 ∷ pos 29295 ∷ pos 10185 ∷ pos 2148
+            ∷ negsuc 2396 ∷ pos 1339 ∷ [];
+        voice = record {
+          tuning = record { N = 3; L = 1; d = 14336 };
+          G = 32768;
+          Na = 0;
+          state = negsuc 31656 ∷ pos 6499 ∷ pos 11463 ∷ [];
+          last = pos 1339;
+          waiting = none;
+          pluck = record { amplitude = 0; left = 0; noise = 0 };
+        };
+        line =
+            negsuc 263 ∷ negsuc 32829 ∷ pos 3083 ∷ pos 9870 ∷ pos 4841 ∷ negsuc 1775 ∷ pos 615
+            ∷ negsuc 94 ∷ pos 32768 ∷ pos 0 ∷ [];
+      })
   -- order 1, G 65,535: what is lost of sums small and large; a half, above and below zero
   pub loss65535 :
       Row (record { N = 1; L = 4; d = 4096; G = 65535; Na = 0 })
@@ -515,6 +545,157 @@ pub record Rows : Type 0 where
             pos 4063 ∷ negsuc 4061 ∷ negsuc 4061 ∷ pos 4063 ∷ negsuc 4129 ∷ negsuc 0 ∷ pos 8192
             ∷ pos 1 ∷ negsuc 8190 ∷ pos 0 ∷ pos 8192 ∷ pos 0 ∷ negsuc 2 ∷ pos 0 ∷ pos 3 ∷ pos 0
             ∷ [];
+      })
+  -- order 3: both ends of d and the whole delay; a change waits over blocks and takes effect within
+  -- one, with refusals 3 and 6; an instant change; a pluck and clipped samples; one waits at last
+  pub waits3 :
+      Row (record { N = 3; L = 2; d = 10241; G = 65535; Na = 4 })
+      (block (pos 1000000 ∷ negsuc 1999999 ∷ pos 500000 ∷ pos 7 ∷ []) 4
+      ∷ instant 1 14336
+      ∷ block (pos 0 ∷ pos 0 ∷ negsuc 8 ∷ []) 3
+      ∷ announce 3 12288
+      ∷ announce 2 10240
+      ∷ instant 2 14337
+      ∷ announce 1 11000
+      ∷ block (pos 0 ∷ pos 8388607 ∷ []) 2
+      ∷ pluck 200 3 5
+      ∷ block (pos 0 ∷ pos 0 ∷ pos 0 ∷ negsuc 8388606 ∷ []) 4
+      ∷ announce 1 14336
+      ∷ block (pos 0 ∷ pos 0 ∷ pos 0 ∷ pos 0 ∷ pos 0 ∷ []) 5
+      ∷ announce 2 10241
+      ∷ block (pos 0 ∷ pos 0 ∷ pos 0 ∷ []) 3
+      ∷ [])
+      (record {
+        opening = 0;
+        numbers = 0 ∷ 0 ∷ 0 ∷ 0 ∷ 3 ∷ 3 ∷ 6 ∷ 0 ∷ 0 ∷ 0 ∷ 0 ∷ 0 ∷ 0 ∷ 0 ∷ [];
+        counts = 0 ∷ 4 ∷ 0 ∷ 0 ∷ 0 ∷ 0 ∷ 0 ∷ 0 ∷ 0 ∷ 0 ∷ 0 ∷ 0 ∷ 0 ∷ 0 ∷ [];
+        outputs =
+            pos 0 ∷ pos 0 ∷ pos 4333 ∷ negsuc 58130 ∷ pos 1541403 ∷ negsuc 1619471 ∷ negsuc 106572
+            ∷ negsuc 137909 ∷ pos 622442 ∷ pos 358503 ∷ pos 35973 ∷ negsuc 39033 ∷ negsuc 863017
+            ∷ negsuc 122239 ∷ pos 8388607 ∷ negsuc 2943734 ∷ pos 3239035 ∷ negsuc 4187863
+            ∷ pos 2513284 ∷ pos 3776731 ∷ pos 1174582 ∷ [];
+        voice = record {
+          tuning = record { N = 3; L = 1; d = 14336 };
+          G = 65535;
+          Na = 4;
+          state = pos 2851947 ∷ negsuc 1035334 ∷ negsuc 424193 ∷ [];
+          last = pos 1174582;
+          waiting = some (record {
+            kind = announced;
+            tuning = record { N = 3; L = 2; d = 10241 };
+            taken = 3;
+            state = negsuc 599956 ∷ negsuc 537648 ∷ pos 147648 ∷ [];
+          });
+          pluck = record { amplitude = 0; left = 0; noise = 0 };
+        };
+        line =
+            pos 2475619 ∷ pos 3144960 ∷ negsuc 837276 ∷ negsuc 474406 ∷ pos 147648 ∷ pos 2722394
+            ∷ pos 4133120 ∷ negsuc 492620 ∷ negsuc 8388606 ∷ negsuc 3369129 ∷ pos 3239035
+            ∷ negsuc 2943734 ∷ pos 8388607 ∷ negsuc 122239 ∷ negsuc 863017 ∷ negsuc 39033
+            ∷ pos 741625 ∷ negsuc 26891 ∷ pos 502166 ∷ negsuc 1999999 ∷ pos 1000000 ∷ pos 0 ∷ [];
+      })
+  -- order 3, Na 64: an instant change that reaches back before step 0; one waits at last
+  pub early3 :
+      Row (record { N = 3; L = 1; d = 13000; G = 60000; Na = 64 })
+      (block (negsuc 2999999 ∷ pos 4000000 ∷ pos 70000 ∷ []) 3
+      ∷ instant 2 10500
+      ∷ block (pos 0 ∷ pos 0 ∷ pos 0 ∷ pos 0 ∷ []) 4
+      ∷ announce 1 14000
+      ∷ block (pos 5 ∷ negsuc 0 ∷ []) 2
+      ∷ [])
+      (record {
+        opening = 0;
+        numbers = 0 ∷ 0 ∷ 0 ∷ 0 ∷ 0 ∷ [];
+        counts = 0 ∷ 64 ∷ 0 ∷ 0 ∷ 0 ∷ [];
+        outputs =
+            pos 0 ∷ pos 9979 ∷ negsuc 97126 ∷ pos 157881 ∷ negsuc 1342674 ∷ negsuc 1028955
+            ∷ pos 4328593 ∷ negsuc 1571386 ∷ pos 662479 ∷ [];
+        voice = record {
+          tuning = record { N = 3; L = 2; d = 10500 };
+          G = 60000;
+          Na = 64;
+          state = pos 1700974 ∷ negsuc 656222 ∷ negsuc 1021943 ∷ [];
+          last = pos 662479;
+          waiting = some (record {
+            kind = announced;
+            tuning = record { N = 3; L = 1; d = 14000 };
+            taken = 2;
+            state = pos 1690841 ∷ pos 1510454 ∷ pos 0 ∷ [];
+          });
+          pluck = record { amplitude = 0; left = 0; noise = 0 };
+        };
+        line =
+            negsuc 416065 ∷ pos 1262154 ∷ pos 1510454 ∷ negsuc 1085646 ∷ negsuc 542355 ∷ pos 27811
+            ∷ pos 30107 ∷ pos 4004568 ∷ negsuc 2999999 ∷ pos 0 ∷ [];
+      })
+  -- order 3, Na 0: announced changes take effect in the call
+  pub at-once3 :
+      Row (record { N = 3; L = 1; d = 14336; G = 65535; Na = 0 })
+      (block (pos 1000000 ∷ negsuc 1999999 ∷ pos 3000000 ∷ []) 3
+      ∷ announce 2 10241
+      ∷ block (pos 0 ∷ pos 0 ∷ pos 0 ∷ []) 3
+      ∷ instant 1 12288
+      ∷ block (pos 0 ∷ pos 0 ∷ negsuc 6 ∷ []) 3
+      ∷ [])
+      (record {
+        opening = 0;
+        numbers = 0 ∷ 0 ∷ 0 ∷ 0 ∷ 0 ∷ [];
+        counts = 0 ∷ 0 ∷ 0 ∷ 0 ∷ 0 ∷ [];
+        outputs =
+            pos 0 ∷ negsuc 11657 ∷ pos 110409 ∷ negsuc 8691 ∷ pos 112430 ∷ negsuc 1052678 ∷ pos 0
+            ∷ pos 0 ∷ pos 0 ∷ [];
+        voice = record {
+          tuning = record { N = 3; L = 1; d = 12288 };
+          G = 65535;
+          Na = 0;
+          state = pos 0 ∷ negsuc 526330 ∷ negsuc 470116 ∷ [];
+          last = pos 0;
+          waiting = none;
+          pluck = record { amplitude = 0; left = 0; noise = 0 };
+        };
+        line =
+            negsuc 6 ∷ pos 0 ∷ negsuc 526330 ∷ negsuc 470116 ∷ pos 51868 ∷ pos 50858 ∷ pos 3049375
+            ∷ negsuc 2005828 ∷ pos 1000000 ∷ pos 0 ∷ [];
+      })
+  -- order 3, Na 2: a commit too early, one three samples late, a withdrawal, a commit in time
+  pub asked3 :
+      Row (record { N = 3; L = 2; d = 11171; G = 65000; Na = 2 })
+      (block (pos 1000000 ∷ negsuc 1999999 ∷ pos 500000 ∷ pos 7 ∷ []) 4
+      ∷ ask 1 14336
+      ∷ block (pos 0 ∷ []) 1
+      ∷ commit
+      ∷ block (pos 0 ∷ pos 0 ∷ pos 0 ∷ pos 0 ∷ []) 4
+      ∷ commit
+      ∷ block (pos 0 ∷ pos 0 ∷ []) 2
+      ∷ ask 3 10241
+      ∷ block (pos 9 ∷ []) 1
+      ∷ withdraw
+      ∷ ask 2 13255
+      ∷ block (pos 0 ∷ negsuc 8 ∷ []) 2
+      ∷ commit
+      ∷ block (pos 0 ∷ pos 0 ∷ []) 2
+      ∷ [])
+      (record {
+        opening = 0;
+        numbers = 0 ∷ 0 ∷ 0 ∷ 20 ∷ 0 ∷ 0 ∷ 0 ∷ 0 ∷ 0 ∷ 0 ∷ 0 ∷ 0 ∷ 0 ∷ 0 ∷ [];
+        counts = 0 ∷ 0 ∷ 0 ∷ 0 ∷ 0 ∷ 0 ∷ 0 ∷ 0 ∷ 0 ∷ 0 ∷ 0 ∷ 0 ∷ 0 ∷ 0 ∷ [];
+        outputs =
+            pos 0 ∷ pos 0 ∷ pos 3387 ∷ negsuc 41285 ∷ pos 297909 ∷ pos 477204 ∷ negsuc 1983362
+            ∷ pos 945009 ∷ negsuc 282381 ∷ pos 561283 ∷ negsuc 353868 ∷ negsuc 782867 ∷ pos 76186
+            ∷ pos 149303 ∷ negsuc 36667 ∷ pos 176350 ∷ [];
+        voice = record {
+          tuning = record { N = 3; L = 2; d = 13255 };
+          G = 65000;
+          Na = 2;
+          state = pos 59324 ∷ negsuc 445882 ∷ negsuc 546513 ∷ [];
+          last = pos 176350;
+          waiting = none;
+          pluck = record { amplitude = 0; left = 0; noise = 0 };
+        };
+        line =
+            pos 69270 ∷ pos 55857 ∷ pos 111813 ∷ negsuc 350450 ∷ negsuc 563710 ∷ pos 102859
+            ∷ pos 138310 ∷ pos 328604 ∷ negsuc 514930 ∷ negsuc 746919 ∷ pos 384387 ∷ pos 127262
+            ∷ negsuc 18787 ∷ pos 501680 ∷ negsuc 1999999 ∷ pos 1000000 ∷ pos 0 ∷ [];
       })
   -- Open refuses by 5: the calls go to its refusal voice; a pluck runs out at last
   pub refused5 :

@@ -51,6 +51,15 @@ headers =
           ∷ pos 19912 ∷ negsuc 10041 ∷ [];
     }
     ∷ record {
+      bytes = 3 ∷ 0 ∷ 3 ∷ 0 ∷ 4 ∷ 41 ∷ 96 ∷ 234 ∷ 48 ∷ 9 ∷ 0 ∷ 2 ∷ 0 ∷ 1 ∷ 9 ∷ 0 ∷ [];
+      room = 9;
+      number = 0;
+      place = 2;
+      samples =
+          pos 0 ∷ pos 0 ∷ pos 0 ∷ negsuc 662 ∷ pos 6752 ∷ negsuc 53796 ∷ negsuc 183601
+          ∷ negsuc 65579 ∷ pos 15668 ∷ [];
+    }
+    ∷ record {
       bytes = 1 ∷ 0 ∷ 2 ∷ 0 ∷ 160 ∷ 15 ∷ 96 ∷ 234 ∷ 48 ∷ 9 ∷ 0 ∷ 2 ∷ 0 ∷ 1 ∷ 9 ∷ 0 ∷ [];
       room = 9;
       number = 0;
@@ -117,7 +126,7 @@ unopened =
       samples = [];
     }
     ∷ record {
-      bytes = 3 ∷ 64 ∷ 1 ∷ 0 ∷ 0 ∷ 16 ∷ 0 ∷ 0 ∷ 48 ∷ 9 ∷ 0 ∷ 2 ∷ 0 ∷ 1 ∷ 1 ∷ 0 ∷ [];
+      bytes = 4 ∷ 64 ∷ 1 ∷ 0 ∷ 0 ∷ 16 ∷ 0 ∷ 0 ∷ 48 ∷ 9 ∷ 0 ∷ 2 ∷ 0 ∷ 1 ∷ 1 ∷ 0 ∷ [];
       room = 1;
       number = 1;
       place = 0;
@@ -169,6 +178,20 @@ unopened =
       bytes = 2 ∷ 65 ∷ 0 ∷ 8 ∷ 0 ∷ 40 ∷ 255 ∷ 255 ∷ 48 ∷ 9 ∷ 0 ∷ 2 ∷ 0 ∷ 1 ∷ 1 ∷ 0 ∷ [];
       room = 1;
       number = 5;
+      place = 0;
+      samples = [];
+    }
+    ∷ record {
+      bytes = 3 ∷ 0 ∷ 1 ∷ 0 ∷ 0 ∷ 40 ∷ 0 ∷ 0 ∷ 48 ∷ 9 ∷ 0 ∷ 2 ∷ 0 ∷ 1 ∷ 1 ∷ 0 ∷ [];
+      room = 1;
+      number = 3;
+      place = 0;
+      samples = [];
+    }
+    ∷ record {
+      bytes = 3 ∷ 0 ∷ 1 ∷ 0 ∷ 1 ∷ 56 ∷ 0 ∷ 0 ∷ 48 ∷ 9 ∷ 0 ∷ 2 ∷ 0 ∷ 1 ∷ 1 ∷ 0 ∷ [];
+      room = 1;
+      number = 3;
       place = 0;
       samples = [];
     }

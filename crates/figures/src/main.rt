@@ -1,5 +1,5 @@
-// Prints document 01's checked figures of coefficients, noise, notes and effective length, by the routines.
-// That the definitions give the starred ones is one fact, specs/Starred.antt.
+// Prints the checked figures of coefficients, noise, notes and effective length, by the routines. That the
+// definitions give document 01's starred ones, and those that L5 adds, are specs/Starred.antt and Added.antt.
 use libc::STDOUT_FILENO;
 
 fn number(n: u32) {
@@ -29,6 +29,7 @@ fn coefficients(order: u32, d: u32) {
     number(r.refusal);
     signed(r.a1);
     signed(r.a2);
+    signed(r.a3);
     end();
 }
 
@@ -75,6 +76,9 @@ fn main() {
     coefficients(2, 6_145);
     coefficients(2, 10_240);
     coefficients(2, 8_192);
+    coefficients(3, 10_241);
+    coefficients(3, 12_288);
+    coefficients(3, 14_336);
     coefficients(1, 2_048);
     coefficients(2, 6_144);
     let first = draw(0);

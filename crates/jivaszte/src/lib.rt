@@ -13,16 +13,29 @@ ghost use Rattle.score.specs.Played.{Runs};
 ghost use Rattle.wav.specs.Written.{written, left};
 ghost use Rattle.wav.specs.Recorded.{recorded, filled};
 
-// A1 and A2 of an order and a delay.
+// A1, A2 and A3 of an order and a delay.
 #[no_mangle]
-pub extern "C" fn jivaszte_coefficients(order: u32, d: u32, a1: &mut i32, a2: &mut i32) -> u32
-    ensures { λ r. ⌜ record { refusal = r; a1 = now (a1 .exit); a2 = now (a2 .exit) } ≡ design order d ⌝ }
+pub extern "C" fn jivaszte_coefficients(
+    order: u32,
+    d: u32,
+    a1: &mut i32,
+    a2: &mut i32,
+    a3: &mut i32,
+) -> u32
+    ensures { λ r. ⌜ record {
+      refusal = r;
+      a1 = now (a1 .exit);
+      a2 = now (a2 .exit);
+      a3 = now (a3 .exit);
+    } ≡ design order d ⌝ }
 {
     let c = thiran::coefficients(order, d);
     let x = c.a1;
     let y = c.a2;
+    let z = c.a3;
     *a1 = x;
     *a2 = y;
+    *a3 = z;
     c.refusal
 }
 

@@ -115,7 +115,10 @@ pub fn while_idle(line: &mut [i32; 2112], h: Head, buffer: &mut [i32]) -> Head
     if h.filter.tuning.order == 1 {
         return idle(line, 1, h, buffer);
     }
-    idle(line, 2, h, buffer)
+    if h.filter.tuning.order == 2 {
+        return idle(line, 2, h, buffer);
+    }
+    idle(line, 3, h, buffer)
 }
 
 // The same while a change waits, before it may be put in force.
@@ -137,7 +140,10 @@ fn by_order(line: &mut [i32; 2112], h: Head, e: Filter, taken: u32, buffer: &mut
     if h.filter.tuning.order == 1 {
         return waiting(line, 1, h, e, taken, buffer);
     }
-    waiting(line, 2, h, e, taken, buffer)
+    if h.filter.tuning.order == 2 {
+        return waiting(line, 2, h, e, taken, buffer);
+    }
+    waiting(line, 3, h, e, taken, buffer)
 }
 
 // So many samples more, counted up to the advance.

@@ -99,7 +99,7 @@ module _ (fs m : ℕ) where
       nearest-only _ _ U (omega (arith, divisor-least m (up (o m)))) n
 
   -- ---- L and d
-  module _ (N : ℕ) (h : Between 1 N 2) where
+  module _ (N : ℕ) (h : Between 1 N 3) where
     abbrev split : ℤ
     split = splitL N T
 
@@ -163,7 +163,7 @@ module _ (N fs m : ℕ) where
 
   thirteen :
       (n ≡ 13)
-      ↔ (Between 1 N 2 × (Between 8000 fs 192000 × (Between 0 m 127
+      ↔ (Between 1 N 3 × (Between 8000 fs 192000 × (Between 0 m 127
       × ((L : ℤ) (d : ℕ) → Sounds N fs m L d → Long L → ⊥))))
   thirteen =
       let i = refused (order N ∷ rate fs ∷ note m ∷ []) (noteLength L) [] tt in (
@@ -193,7 +193,7 @@ module _ (N fs m : ℕ) where
 
   zeroth :
       (n ≡ 0)
-      ↔ (Between 1 N 2 × (Between 8000 fs 192000 × (Between 0 m 127
+      ↔ (Between 1 N 3 × (Between 8000 fs 192000 × (Between 0 m 127
       × ((L : ℤ) (d : ℕ) → Sounds N fs m L d → Long L))))
   zeroth =
       let i = accepted (order N) (rate fs ∷ note m ∷ noteLength L ∷ []) tt in (

@@ -45,16 +45,16 @@ pub record Long (L : ℤ) : Type 0 where
 -- 0"
 module _ (N fs m : ℕ) where
   pub record Notes (r : Pitch) : Type 0 where
-    pub order : (r .refusal ≡ 1) ↔ (Between 1 N 2 → ⊥)
-    pub rate : (r .refusal ≡ 11) ↔ (Between 1 N 2 × (Between 8000 fs 192000 → ⊥))
-    pub note : (r .refusal ≡ 12) ↔ (Between 1 N 2 × (Between 8000 fs 192000 × (Between 0 m 127 → ⊥)))
+    pub order : (r .refusal ≡ 1) ↔ (Between 1 N 3 → ⊥)
+    pub rate : (r .refusal ≡ 11) ↔ (Between 1 N 3 × (Between 8000 fs 192000 → ⊥))
+    pub note : (r .refusal ≡ 12) ↔ (Between 1 N 3 × (Between 8000 fs 192000 × (Between 0 m 127 → ⊥)))
     pub length :
         (r .refusal ≡ 13)
-        ↔ (Between 1 N 2 × (Between 8000 fs 192000 × (Between 0 m 127
+        ↔ (Between 1 N 3 × (Between 8000 fs 192000 × (Between 0 m 127
         × ((L : ℤ) (d : ℕ) → Sounds N fs m L d → Long L → ⊥))))
     pub accepted :
         (r .refusal ≡ 0)
-        ↔ (Between 1 N 2 × (Between 8000 fs 192000 × (Between 0 m 127
+        ↔ (Between 1 N 3 × (Between 8000 fs 192000 × (Between 0 m 127
         × ((L : ℤ) (d : ℕ) → Sounds N fs m L d → Long L))))
     pub refused : (r .refusal ≡ 0 → ⊥) → (r .length ≡ 0) × (r .delay ≡ 0)
     pub given : r .refusal ≡ 0 → Sounds N fs m (pos (r .length)) (r .delay)
@@ -62,5 +62,5 @@ module _ (N fs m : ℕ) where
 pub record Returns : Type 0 where
   pub notes : (N fs m : ℕ) → Notes N fs m (pitch N fs m)
   -- an order, a rate and a note have an L and a d, and no other
-  pub some : (N fs m : ℕ) → Between 1 N 2 → Sounding N fs m
+  pub some : (N fs m : ℕ) → Between 1 N 3 → Sounding N fs m
   pub only : (N fs m : ℕ) (L M : ℤ) (d e : ℕ) → Sounds N fs m L d → Sounds N fs m M e → (L ≡ M) × (d ≡ e)

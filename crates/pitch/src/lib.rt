@@ -8,6 +8,7 @@ ghost use lib.ListN.{getD};
 ghost use Rattle.integer.specs.Parts.{up};
 ghost use Rattle.integer.specs.Rounding.{nearest as Nearest};
 ghost use Rattle.refusal.specs.Limits.{refusal};
+ghost use Rattle.refusal.specs.Orders.{orders};
 ghost use Rattle.pitch.specs.Pitch.{octave, k, period as Period, splitL, noteLength, answer, pitch};
 use refusal::NOTE;
 use refusal::NOTE_LENGTH;
@@ -73,7 +74,7 @@ fn period(rate: u32, m: u32) -> u32
 
 // L where T is t, and 0 where L is below zero.
 fn whole(order: u32, t: u32) -> u32
-    requires { ⌜ (1 ≤ order) × (order ≤ 2) ⌝ }
+    requires { ⌜ (1 ≤ order) × (order ≤ orders) ⌝ }
     ensures { λ r. ⌜ r ≡ up (splitL order (pos t)) ⌝ }
 {
     if t <= 4_096 * order {
@@ -84,7 +85,7 @@ fn whole(order: u32, t: u32) -> u32
 
 // What is returned where only L is still to be tested, and T is t.
 fn split(order: u32, t: u32) -> Pitch
-    requires { ⌜ (1 ≤ order) × (order ≤ 2) ⌝ }
+    requires { ⌜ (1 ≤ order) × (order ≤ orders) ⌝ }
     ensures { λ r. ⌜ r ≡ answer order (pos t) (refusal (noteLength (splitL order (pos t)) ∷ [])) ⌝ }
 {
     let length = whole(order, t);

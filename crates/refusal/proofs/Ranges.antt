@@ -1,4 +1,4 @@
--- The orders and delays of specs/Orders.antt are document 01's own numbers; what the tests of both give.
+-- The orders and delays of specs/Orders.antt are the documents' own numbers; what the tests of both give.
 -- Assumes nothing.
 use mathlib.Core.Path.{refl}
 use mathlib.Core.List.{[], _∷_}
@@ -6,28 +6,32 @@ use Prim.Native.Nat.{ℕ, zero, suc}
 use native.Mathlib.Omega.{arith}
 use Rattle.refusal.specs.Limits.{Between, refusal}
 use Rattle.refusal.specs.Orders.{lowest, highest, order, delay}
-use Rattle.refusal.specs.Ranges.{InRange, order-1, order-2, Ranges, OrderDelay}
+use Rattle.refusal.specs.Ranges.{InRange, order-1, order-2, order-3, Ranges, OrderDelay}
 use Rattle.refusal.proofs.Tests.{refused, accepted}
 
-pub in-range : (N d : ℕ) → Between 1 N 2 → Between (lowest N) d (highest N) → InRange N d
+pub in-range : (N d : ℕ) → Between 1 N 3 → Between (lowest N) d (highest N) → InRange N d
 in-range zero d o b = absurd (omega (arith, o .least))
 in-range (suc zero) d o b = order-1 (record { least = b .least; most = b .most })
 in-range (suc (suc zero)) d o b = order-2 (record { least = b .least; most = b .most })
-in-range (suc (suc (suc N))) d o b = absurd (omega (arith, o .most))
+in-range (suc (suc (suc zero))) d o b = order-3 (record { least = b .least; most = b .most })
+in-range (suc (suc (suc (suc N)))) d o b = absurd (omega (arith, o .most))
 
-pub ordered : {N d : ℕ} → InRange N d → Between 1 N 2
+pub ordered : {N d : ℕ} → InRange N d → Between 1 N 3
 ordered (order-1 b) = record { least = omega arith; most = omega arith }
 ordered (order-2 b) = record { least = omega arith; most = omega arith }
+ordered (order-3 b) = record { least = omega arith; most = omega arith }
 
 pub delayed : {N d : ℕ} → InRange N d → Between (lowest N) d (highest N)
 delayed (order-1 b) = record { least = b .least; most = b .most }
 delayed (order-2 b) = record { least = b .least; most = b .most }
+delayed (order-3 b) = record { least = b .least; most = b .most }
 
 pub ranges : Ranges
 ranges = record {
   orders-are = refl;
   order-1 = (refl, refl);
   order-2 = (refl, refl);
+  order-3 = (refl, refl);
   takes = λ N d. (
     λ t.
         in-range N d (record { least = t .least; most = t .most })

@@ -1,11 +1,11 @@
--- The orders of the filter, the delays that each takes, and the other limits of a voice, as document 01 has
--- them, with the tests of order and delay. Definitions alone. Assumes nothing.
+-- The orders of the filter, the delays that each takes, and the other limits of a voice, as documents 01 and
+-- 02 (L5) have them, with the tests of order and delay. Definitions alone. Assumes nothing.
 use Prim.Native.Nat.{ℕ, _+_, _*_, _-_, _≤_}
 use Rattle.refusal.specs.Limits.{Limit}
 
--- "The order N is 1 or 2"
+-- "The order N is 1 or 2", and since L5 "an order outside 1 to 3" is refused
 abbrev pub orders : ℕ
-orders = 2
+orders = 3
 
 -- "a length L (1 to 2,048)", "a loss G (0 to 65,535, ..)", "an advance Na (0 to 64)"
 abbrev pub longest : ℕ
@@ -17,7 +17,8 @@ most-loss = 65535
 abbrev pub most-advance : ℕ
 most-advance = 64
 
--- "Order 1 takes d from 2,049 to 6,144, order 2 from 6,145 to 10,240"
+-- "Order 1 takes d from 2,049 to 6,144, order 2 from 6,145 to 10,240"; "Order 3 .. from 10,241 to
+-- 14,336" (L5)
 abbrev pub lowest : ℕ → ℕ
 lowest N = 4096 * N - 2047
 

@@ -47,7 +47,7 @@ pub const TOO_EARLY: u32 = 20;
 pub const NOTHING_ASKED: u32 = 21;
 
 // The greatest order, length, loss, advance, amplitude and count that are let pass.
-pub const ORDERS: u32 = 2;
+pub const ORDERS: u32 = 3;
 
 pub const LONGEST: u32 = 2_048;
 

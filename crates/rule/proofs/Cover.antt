@@ -60,5 +60,6 @@ advances N = map (λ Na. figure (Na / N)) (0 ∷ 8 ∷ 16 ∷ 24 ∷ 32 ∷ 48 �
 pub figure-advances :
     (advances 1 ≡ 25165824 ∷ 98304 ∷ 384 ∷ 2 ∷ 2 ∷ 2 ∷ 2 ∷ [])
     × (advances 2 ≡ 25165824 ∷ 1572864 ∷ 98304 ∷ 6144 ∷ 384 ∷ 2 ∷ 2 ∷ [])
+    × (advances 3 ≡ 25165824 ∷ 6291456 ∷ 786432 ∷ 98304 ∷ 24576 ∷ 384 ∷ 12 ∷ [])
 unfolding figure advances
-figure-advances = (refl, refl)
+figure-advances = (refl, refl, refl)

@@ -16,7 +16,7 @@ use Rattle.allpass.proofs.Contraction.{length-run, run-within}
 use Rattle.rule.specs.Voice.{Tuning, Voice, A, rest, output, written}
 use Rattle.rule.specs.Valid.{Tunable, Filled}
 
--- "In both orders |A1| + |A2| is at most 32,768"
+-- "the limit 32,768 on the sum of magnitudes"
 pub norm-fit : {t : Tuning} → Tunable t → norm (A t) ≤ 32768
 norm-fit {t} f = theorem (t .N) (t .d) (f .takes) .small
 

@@ -20,12 +20,16 @@ Differs o cs N Na j B =
     → natAbs (getD (puts (S.fresh o) cs) m (pos 0) -ℤ new (k .t) (after o cs .s) m) ≤ B
 
 pub record Literals (o : Opening) (cs : List Call) : Type 0 where
-  -- Na 64, the most there is: at most 2, in either order
+  -- Na 64, the most there is: at most 2 in orders 1 and 2; in order 3, where k is 21, at most 12, and 2 from
+  -- 8 samples after the change on
   pub order-1-na-64 : Differs o cs 1 64 0 2
   pub order-2-na-64 : Differs o cs 2 64 0 2
-  -- L3: a commit 100 samples after its ask
+  pub order-3-na-64 : Differs o cs 3 64 0 12
+  pub order-3-na-64-after-8 : Differs o cs 3 64 8 2
+  -- L3: a commit so many samples after its ask, past 64 too
   pub order-1-after-100 : Differs o cs 1 100 0 2
   pub order-2-after-47 : Differs o cs 2 47 0 3
+  pub order-3-after-72 : Differs o cs 3 72 0 2
   -- order 1
   pub order-1-na-24 : Differs o cs 1 24 0 2
   pub order-1-na-23 : Differs o cs 1 23 0 3
@@ -36,3 +40,6 @@ pub record Literals (o : Opening) (cs : List Call) : Type 0 where
   pub order-2-na-46 : Differs o cs 2 46 0 3
   -- order 2 with no advance: from 46 samples after the change on
   pub order-2-na-0-after-46 : Differs o cs 2 0 46 3
+  -- order 3 with no advance: from 69 and from 72 samples after the change on
+  pub order-3-na-0-after-69 : Differs o cs 3 0 69 3
+  pub order-3-na-0-after-72 : Differs o cs 3 0 72 2

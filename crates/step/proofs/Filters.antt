@@ -12,7 +12,7 @@ use Rattle.allpass.specs.Stored.{stored, held, Fed}
 use Rattle.allpass.specs.declared.State.{State}
 use Rattle.allpass.proofs.Bounds.{out-within}
 use Rattle.allpass.proofs.Stored.{fed-held, fed-next}
-use Rattle.allpass.proofs.Taken.{taken-taps, taken-past, taken-small}
+use Rattle.allpass.proofs.Taken.{taken-taps, taken-small}
 use Rattle.rule.specs.Voice.{A}
 use Rattle.voice.specs.declared.Filter.{Filter}
 use Rattle.voice.specs.Struct.{tuningOf, filterOf}
@@ -39,9 +39,7 @@ module _ {f : Filter} (t : Tuned f) {x : ℤ} (k : natAbs x ≤ M) where
       record {
         least = t .takes .least;
         most = t .takes .most;
-        taps-past = taken-past N d (t .takes) (f .coefficients) (t .coefficients-are);
         taps-small = taken-small N d (t .takes) (f .coefficients) (t .coefficients-are);
-        state-past = t .past;
         state-within = t .within;
         sample = k;
       }

@@ -30,12 +30,17 @@ module _ (N d : ℕ) where
       refusals .accepted .1 (more o (more p none))
 
   pub design-refused : (refusal (limits N d) ≡ 0 → ⊥)
-      → design N d ≡ record { refusal = refusal (limits N d); a1 = pos 0; a2 = pos 0 }
+      → design N d ≡ record { refusal = refusal (limits N d); a1 = pos 0; a2 = pos 0; a3 = pos 0 }
   unfolding design
   design-refused f = rw (ne-eqb (refusal (limits N d)) 0 f)
 
   pub design-taken : Takes N d
       → design N d
-      ≡ record { refusal = 0; a1 = getD (coefficients N d) 0 (pos 0); a2 = getD (coefficients N d) 1 (pos 0) }
+      ≡ record {
+        refusal = 0;
+        a1 = getD (coefficients N d) 0 (pos 0);
+        a2 = getD (coefficients N d) 1 (pos 0);
+        a3 = getD (coefficients N d) 2 (pos 0);
+      }
   unfolding design
   design-taken t = rw (eq-eqb (refusal (limits N d)) 0 (takes-0 t))

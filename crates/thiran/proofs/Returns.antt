@@ -12,7 +12,7 @@ use Rattle.integer.proofs.Ring.{*-assoc}
 use Rattle.integer.proofs.Rounding.{nearest-is, nearest-same}
 use Rattle.refusal.specs.Limits.{refusal}
 use Rattle.refusal.specs.Orders.{Takes}
-use Rattle.refusal.specs.Ranges.{order-1, order-2, OrderDelay}
+use Rattle.refusal.specs.Ranges.{order-1, order-2, order-3, OrderDelay}
 use Rattle.refusal.proofs.Ranges.{ranges, order-delay}
 use Rattle.thiran.specs.Formula.{a, Same, fraction}
 use Rattle.thiran.specs.Coefficients.{coefficient, coefficients}
@@ -30,10 +30,11 @@ module _ (N d : ℕ) where
       go (yes e) = e ∙ sym (ap (λ (r : Design). r .refusal) (design-taken N d (takes N d e)))
       go (no f) = sym (ap (λ (r : Design). r .refusal) (design-refused N d f))
 
-  refused : (design N d .refusal ≡ 0 → ⊥) → (design N d .a1 ≡ pos 0) × (design N d .a2 ≡ pos 0)
+  refused : (design N d .refusal ≡ 0 → ⊥)
+      → (design N d .a1 ≡ pos 0) × (design N d .a2 ≡ pos 0) × (design N d .a3 ≡ pos 0)
   refused f =
       let e = design-refused N d (λ z. f (sym number-is ∙ z)) in
-      (ap (λ (r : Design). r .a1) e, ap (λ (r : Design). r .a2) e)
+      (ap (λ (r : Design). r .a1) e, ap (λ (r : Design). r .a2) e, ap (λ (r : Design). r .a3) e)
 
 -- a coefficient is nearest to 65,536 times any fraction that equals the formula's
 module _ (N d k : ℕ) (t : Takes N d) (h : 1 ≤ k) where
@@ -67,11 +68,20 @@ returns = record {
       rw (design-taken 1 d t) (record {
         a1 = nearest-by 1 d 1 t (lit≤ tt) _ _ (omega arith) (T.order-1 d .a1);
         a2 = refl;
+        a3 = refl;
       });
   order-2 = λ d b.
       let t = ranges .takes 2 d .1 (order-2 b) in
       rw (design-taken 2 d t) (record {
         a1 = nearest-by 2 d 1 t (lit≤ tt) _ _ (omega arith) (T.order-2 d .a1);
         a2 = nearest-by 2 d 2 t (lit≤ tt) _ _ (omega arith) (T.order-2 d .a2);
+        a3 = refl;
+      });
+  order-3 = λ d b.
+      let t = ranges .takes 3 d .1 (order-3 b) in
+      rw (design-taken 3 d t) (record {
+        a1 = nearest-by 3 d 1 t (lit≤ tt) _ _ (omega arith) (T.order-3 d .a1);
+        a2 = nearest-by 3 d 2 t (lit≤ tt) _ _ (omega arith) (T.order-3 d .a2);
+        a3 = nearest-by 3 d 3 t (lit≤ tt) _ _ (omega arith) (T.order-3 d .a3);
       });
 }

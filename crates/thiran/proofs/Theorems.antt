@@ -1,4 +1,4 @@
--- What specs/Theorems.antt states: of every order N and delay d that N takes, and of orders 1 and 2.
+-- What specs/Theorems.antt states: of every order N and delay d that N takes, and of orders 1, 2 and 3.
 -- Assumes nothing.
 use mathlib.Core.Path.{_≡_, ap}
 use Prim.Native.Nat.{ℕ, _+_, _*_, _-_, _≤_}
@@ -6,11 +6,12 @@ use native.Mathlib.Omega.{arith}
 use lib.Dec.{lit≤}
 use lib.IntN.{ℤ, pos, negℤ, natAbs, _-ℤ_, _*ℤ_, negℤ-negℤ, zero-*ℤ, *ℤ-comm}
 use Rattle.integer.proofs.View.{*v, -v, negv, Zs}
+use Rattle.integer.proofs.Ring.{*-assoc}
 use Rattle.integer.proofs.Rounding.{nearest-is}
 use Rattle.refusal.specs.Orders.{Takes}
 use Rattle.thiran.specs.Formula.{choose, product, factor, a, Same, fraction}
 use Rattle.thiran.specs.Coefficients.{coefficient}
-use Rattle.thiran.specs.Theorems.{Rounded, Order1, Order2}
+use Rattle.thiran.specs.Theorems.{Rounded, Order1, Order2, Order3}
 use Rattle.thiran.proofs.Products.{neg-*, *-neg}
 use Rattle.thiran.proofs.Cancelled.{turned, raised, cancelled, above, above-0}
 use Rattle.thiran.proofs.Small.{norm-coefficients}
@@ -49,13 +50,35 @@ unfolding a
 order-1 d = record {
   a1 = at 1 d 1 (simp one-* (lowered 1 d 0 (lit≤ tt))) (ap pos (omega arith));
   a2 = zero-*ℤ (product (factor 1 d) 2);
+  a3 = zero-*ℤ (product (factor 1 d) 2);
 }
 
 pub order-2 : (d : ℕ) → Order2 d
+unfolding a
 order-2 d =
     let l0 = lowered 2 d 0 (lit≤ tt) in
     let l1 = lowered 2 d 1 (lit≤ tt) in
     record {
       a1 = at 2 d 1 (simp one-* (ap (λ (z : ℤ). pos 2 *ℤ z) l0)) (ap pos (omega arith));
       a2 = at 2 d 2 (simp one-* (cc (opposite (pos 8192) (pos 4096) (pos d)))) (ap pos (omega arith));
+      a3 = zero-*ℤ (product (factor 2 d) 3);
+    }
+
+pub order-3 : (d : ℕ) → Order3 d
+order-3 d =
+    let l0 = lowered 3 d 0 (lit≤ tt) in
+    let l1 = lowered 3 d 1 (lit≤ tt) in
+    let l2 = lowered 3 d 2 (lit≤ tt) in
+    record {
+      a1 = at 3 d 1 (simp one-* (ap (λ (z : ℤ). pos 3 *ℤ z) l0)) (ap pos (omega arith));
+      a2 = at 3 d 2 (simp one-* (cc (opposite (pos 12288) (pos 8192) (pos d)))) (ap pos (omega arith));
+      a3 = at 3 d 3 (
+          simp one-* (cc (
+            l0,
+            l1,
+            l2,
+            opposite (pos 8192) (pos 4096) (pos d),
+            *-assoc (turned 3 d 0) (turned 3 d 1) (turned 3 d 2),
+            *ℤ-comm (turned 3 d 0) (turned 3 d 1 *ℤ turned 3 d 2),
+          ))) (ap pos (omega arith));
     }

@@ -14,6 +14,7 @@ use integer::nearest;
 pub struct Coefficients {
     pub a1: i64,
     pub a2: i64,
+    pub a3: i64,
 }
 
 // A fraction.
@@ -53,7 +54,13 @@ pub fn set(order: u32, d: u32) -> Coefficients
 {
     let p1 = next(Ratio { top: 1, bottom: 1 }, order, d, 0);
     let p2 = next(p1, order, d, 1);
+    let p3 = next(p2, order, d, 2);
     let a1 = rounded(p1);
     let a2 = rounded(p2);
-    Coefficients { a1: a1.n, a2: a2.n }
+    let a3 = rounded(p3);
+    Coefficients {
+        a1: a1.n,
+        a2: a2.n,
+        a3: a3.n,
+    }
 }

@@ -11,6 +11,7 @@ pub struct Design {
     pub refusal: u32,
     pub a1: i32,
     pub a2: i32,
+    pub a3: i32,
 }
 
 // What an order and a delay are refused by: 1, 3, else 0.
@@ -26,7 +27,7 @@ pub fn refused(order: u32, d: u32) -> u32
     0
 }
 
-// A1 and A2 of an order and a delay; both 0 where they are refused.
+// A1, A2 and A3 of an order and a delay: 0 past the order, and all 0 where they are refused.
 pub fn coefficients(order: u32, d: u32) -> Design
     ensures { λ r. ⌜ r ≡ design order d ⌝ }
 {
@@ -36,6 +37,7 @@ pub fn coefficients(order: u32, d: u32) -> Design
             refusal: code,
             a1: 0,
             a2: 0,
+            a3: 0,
         };
     }
     let c = formula::set(order, d);
@@ -43,5 +45,6 @@ pub fn coefficients(order: u32, d: u32) -> Design
         refusal: 0,
         a1: c.a1 as i32,
         a2: c.a2 as i32,
+        a3: c.a3 as i32,
     }
 }

@@ -10,6 +10,7 @@ ghost use Rattle.rule.specs.Voice.{commits as Commits};
 ghost use Rattle.voice.specs.Struct.{kindOf, withOf, settledOf};
 ghost use Rattle.voice.specs.Called.{Rests};
 use allpass::State;
+use allpass::at_rest;
 use integer::Value;
 use thiran::formula::Coefficients;
 
@@ -112,7 +113,7 @@ pub fn resting(order: u32, length: u32, delay: u32) -> Filter
         length: length,
         delay: delay,
     };
-    let s = State { v1: 0, v2: 0 };
+    let s = at_rest();
     Filter {
         tuning: t,
         coefficients: c,

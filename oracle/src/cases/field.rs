@@ -1,7 +1,7 @@
 //! Random values for each field: values within the limits, and values on and beyond them.
 
 use super::random::Random;
-use crate::thiran::delay_range;
+use crate::thiran::{delay_range, ORDERS};
 
 /// A value on a limit or beyond it: lowest, lowest less 1, highest, highest and 1, 0, 1, 65,535
 /// and the greatest number of the field.
@@ -11,16 +11,17 @@ pub fn boundary(random: &mut Random, lowest: u32, highest: u32, greatest: u32) -
     random.pick(&values).min(greatest)
 }
 
-/// A boundary value of d for this order, or for the other one.
+/// A boundary value of d for this order, or for another one.
 pub fn boundary_delay(random: &mut Random, order: u32, greatest: u32) -> u32 {
-    let order = if (1..=2).contains(&order) && !random.one_in(4) { order } else { 2 };
+    let other = self::order(random);
+    let order = if ORDERS.contains(&order) && !random.one_in(4) { order } else { other };
     let range = delay_range(order);
     boundary(random, *range.start(), *range.end(), greatest)
 }
 
 /// An order.
 pub fn order(random: &mut Random) -> u32 {
-    random.between(1, 2)
+    random.between(*ORDERS.start(), *ORDERS.end())
 }
 
 /// A length, often short, so that a few steps pass the loop many times.

@@ -7,6 +7,7 @@ use super::score_fields::{record_bytes, record_of_map, ScoreFields, Shape};
 use super::scores::{damage, full, SHORT};
 use super::text::Text;
 use crate::player::OUTPUT_SAMPLES;
+use crate::thiran::ORDERS;
 
 /// Bytes as words of two hex digits.
 pub fn hex(bytes: &[u8]) -> String {
@@ -19,7 +20,8 @@ pub fn routines(random: Random) -> Text {
     let mut text = Text::new(random, 4, false);
     for _ in 0..15 {
         let order = field::order(&mut text.random);
-        let (order, delay) = (text.value(order, 1, 2), text.delay(order));
+        let delay = text.delay(order);
+        let order = text.value(order, *ORDERS.start(), *ORDERS.end());
         text.line(format!("coefficients {order} {delay}"));
         let threshold =
             text.random.pick(&[0, 1, 10, 1_000, 100_000, 999_999, 1_000_000, 1_000_001]);

@@ -3,6 +3,7 @@
 use super::field;
 use super::random::Random;
 use crate::record::{Record, AMPLITUDE, COUNT, DELAY, INSTANT, LENGTH, LOSS, SEED, WAIT};
+use crate::thiran::ORDERS;
 
 /// Header fields (order, Na, L, d, G) and records.
 #[derive(Clone, Debug)]
@@ -123,7 +124,7 @@ impl ScoreFields {
         let place = random.below(5 + 7 * self.records.len() as u64) as usize;
         if place < 5 {
             self.header[place] = match place {
-                0 => field::boundary(random, 1, 2, 255),
+                0 => field::boundary(random, *ORDERS.start(), *ORDERS.end(), 255),
                 1 => field::boundary(random, 0, 64, 255),
                 2 => field::boundary(random, 1, 2_048, 65_535),
                 3 => field::boundary_delay(random, order, 65_535),

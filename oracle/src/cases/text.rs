@@ -3,6 +3,7 @@
 use super::field;
 use super::random::Random;
 use crate::number::{to_call, M};
+use crate::thiran::ORDERS;
 use crate::voice::Voice;
 
 /// Lines of a console text, with what is known of the voice that the console then keeps.
@@ -66,7 +67,7 @@ impl Text {
         let loss = self.value(loss, 0, 65_535);
         let usual = advance.unwrap_or_else(|| field::advance(&mut self.random));
         let advance = self.value(usual, 0, 64);
-        let order = self.value(order, 1, 2);
+        let order = self.value(order, *ORDERS.start(), *ORDERS.end());
         let (voice, _) = Voice::open(order, length, delay, loss, advance);
         (self.order, self.advance) = (voice.order, voice.advance);
         self.line(format!("open {order} {length} {delay} {loss} {advance}"));

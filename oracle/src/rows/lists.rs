@@ -12,19 +12,23 @@ pub struct List {
 /// Openings on both sides of each limit, and some with several numbers beyond theirs.
 pub const OPENINGS: &[&str] = &[
     "0 0 0 65536 65",
-    "3 1 4096 0 0",
+    "4 1 4096 0 0",
     "1 0 2048 65536 65",
     "2 2049 6145 0 0",
     "1 1 2048 65536 65",
     "1 2048 6145 0 0",
     "2 1 6144 65536 65",
     "2 2048 10241 0 0",
+    "3 1 10240 65536 65",
+    "3 2048 14337 0 0",
     "1 1 2049 65536 65",
     "2 2048 10240 65535 65",
     "1 1 2049 0 0",
     "1 2048 6144 65535 64",
     "2 1 6145 0 64",
     "2 2048 10240 65535 0",
+    "3 1 10241 0 0",
+    "3 2048 14336 65535 64",
 ];
 
 pub const LISTS: &[List] = &[
@@ -122,6 +126,12 @@ pub const LISTS: &[List] = &[
         calls: "block 4 32768 0 -3 -1; block 3 5 0 0",
     },
     List {
+        name: "halves3",
+        about: &["the same in order 3"],
+        open: "3 1 14336 32768 0",
+        calls: "block 4 32768 0 -3 -1; block 5 5 0 0 -32768 0",
+    },
+    List {
         name: "loss65535",
         about: &["order 1, G 65,535: what is lost of sums small and large; a half, above and below zero"],
         open: "1 4 4096 65535 0",
@@ -132,6 +142,39 @@ pub const LISTS: &[List] = &[
         about: &["order 2, G 65,000: the same"],
         open: "2 4 8192 65000 0",
         calls: "block 5 3 0 -3 0 8192; block 5 0 -8192 0 8193 0; block 5 -8193 0 0 0 0",
+    },
+    List {
+        name: "waits3",
+        about: &[
+            "order 3: both ends of d and the whole delay; a change waits over blocks and takes effect within",
+            "one, with refusals 3 and 6; an instant change; a pluck and clipped samples; one waits at last",
+        ],
+        open: "3 2 10241 65535 4",
+        calls: "block 4 1000000 -2000000 500000 7; instant 1 14336; block 3 0 0 -9; announce 3 12288;
+            announce 2 10240; instant 2 14337; announce 1 11000; block 2 0 8388607; pluck 200 3 5;
+            block 4 0 0 0 -8388607; announce 1 14336; block 5 0 0 0 0 0; announce 2 10241;
+            block 3 0 0 0",
+    },
+    List {
+        name: "early3",
+        about: &["order 3, Na 64: an instant change that reaches back before step 0; one waits at last"],
+        open: "3 1 13000 60000 64",
+        calls: "block 3 -3000000 4000000 70000; instant 2 10500; block 4 0 0 0 0; announce 1 14000;
+            block 2 5 -1",
+    },
+    List {
+        name: "at-once3",
+        about: &["order 3, Na 0: announced changes take effect in the call"],
+        open: "3 1 14336 65535 0",
+        calls: "block 3 1000000 -2000000 3000000; announce 2 10241; block 3 0 0 0; instant 1 12288;
+            block 3 0 0 -7",
+    },
+    List {
+        name: "asked3",
+        about: &["order 3, Na 2: a commit too early, one three samples late, a withdrawal, a commit in time"],
+        open: "3 2 11171 65000 2",
+        calls: "block 4 1000000 -2000000 500000 7; ask 1 14336; block 1 0; commit; block 4 0 0 0 0; commit;
+            block 2 0 0; ask 3 10241; block 1 9; withdraw; ask 2 13255; block 2 0 -9; commit; block 2 0 0",
     },
     List {
         name: "refused5",

@@ -66,17 +66,17 @@ fn turn(
 /// Twelve notes, one of each place in the octave, over all octaves.
 const PLACES: [u32; 12] = [0, 13, 26, 39, 52, 65, 70, 71, 78, 91, 104, 117];
 
-/// Those notes in both orders.
+/// Those notes in each order.
 fn places(rate: u32) -> Vec<Asked> {
-    PLACES.into_iter().flat_map(|m| [1, 2].map(|order| (order, rate, m))).collect()
+    PLACES.into_iter().flat_map(|m| [1, 2, 3].map(|order| (order, rate, m))).collect()
 }
 
 /// "13 L outside 1 to 2,048": where L leaves 2,048 and where it comes to 1; L below zero at last.
 fn lengths() -> Vec<Asked> {
     let refused = |(number, _, _)| number == 13;
-    let most = [1, 2].map(|order| turn(order, 10, |(_, length, _)| length == 2_048, refused));
-    let least = [1, 2].map(|order| turn(order, 120, refused, |(_, length, _)| length == 1));
-    let below = [(1, 8_000, 127), (2, 8_000, 127)];
+    let most = [1, 2, 3].map(|order| turn(order, 10, |(_, length, _)| length == 2_048, refused));
+    let least = [1, 2, 3].map(|order| turn(order, 120, refused, |(_, length, _)| length == 1));
+    let below = [(1, 8_000, 127), (2, 8_000, 127), (3, 8_000, 127)];
     [most.concat(), least.concat(), below.to_vec()].concat()
 }
 
@@ -85,7 +85,7 @@ fn delays() -> Vec<Asked> {
     let turns = |(order, least, most)| {
         turn(order, 119, move |(_, _, delay)| delay == most, move |(_, _, delay)| delay == least)
     };
-    [(1, 2_049, 6_144), (2, 6_145, 10_240)].map(turns).concat()
+    [(1, 2_049, 6_144), (2, 6_145, 10_240), (3, 10_241, 14_336)].map(turns).concat()
 }
 
 /// A table of these notes.
@@ -100,7 +100,8 @@ const ORDERS: &[Asked] = &[
     (1, 44_100, 69),
     (2, 44_100, 69),
     (3, 44_100, 69),
-    (3, 0, 128),
+    (4, 44_100, 69),
+    (4, 0, 128),
     (4_294_967_295, 8_000, 0),
 ];
 
@@ -109,12 +110,15 @@ const RATES: &[Asked] = &[
     (1, 0, 128),
     (1, 7_999, 60),
     (2, 7_999, 128),
+    (3, 0, 128),
     (1, 8_000, 60),
     (2, 8_000, 60),
     (1, 192_000, 60),
     (2, 192_000, 60),
     (1, 192_001, 60),
     (2, 192_001, 128),
+    (3, 8_000, 60),
+    (3, 192_000, 60),
     (1, 4_294_967_295, 0),
 ];
 
@@ -126,6 +130,8 @@ const NOTES: &[Asked] = &[
     (2, 192_000, 127),
     (1, 192_000, 128),
     (2, 8_000, 128),
+    (3, 192_000, 127),
+    (3, 8_000, 128),
     (1, 44_100, 4_294_967_295),
 ];
 

@@ -4,7 +4,7 @@ use mathlib.Core.Path.{sym, _∙_}
 use borrow.Author.Needs.{needs}
 use Rattle.refusal.specs.Orders.{Takes}
 use Rattle.thiran.proofs.Refusals.{takes}
-use Rattle.allpass.proofs.Taken.{taken-taps, taken-past, taken-small, length-refused, length-taken}
+use Rattle.allpass.proofs.Taken.{taken-taps, taken-small, length-refused, length-taken}
 use Rattle.allpass.proofs.effective_length.Statement.{statement}
 use Rattle.allpass.proofs.effective_length.Tie as tie
 
@@ -29,9 +29,8 @@ last-loud-requires : tie.Need-last-loud-requires
 last-loud-requires c κs =
     let s = c .before .before .before in
     let t = taken (c .before) in
-    let past = taken-past (s .args .order) (s .args .d) t (c .set .result) (c .set .ensures) in
     let small = taken-small (s .args .order) (s .args .d) t (c .set .result) (c .set .ensures) in
-    (t .least, t .most, past, small)
+    (t .least, t .most, small)
 
 returns-2 : tie.Need-returns-2
 returns-2 c =

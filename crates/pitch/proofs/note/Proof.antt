@@ -5,14 +5,14 @@ use mathlib.Core.Bool.{false}
 use native.Mathlib.Omega.{arith}
 use borrow.Author.Needs.{needs}
 use Rattle.refusal.specs.Limits.{outside}
-use Rattle.refusal.specs.Orders.{order}
+use Rattle.refusal.specs.Orders.{orders, order}
 use Rattle.refusal.proofs.Returned.{is-kept}
 use Rattle.pitch.specs.Pitch.{rate, note, pitch}
 use Rattle.pitch.proofs.note.Statement.{statement}
 use Rattle.pitch.proofs.note.Tie as tie
 
 -- the tests that let pass
-kept1 : (c : tie.Else1) → outside (c .before .before .args .order) 1 2 ≡ false
+kept1 : (c : tie.Else1) → outside (c .before .before .args .order) 1 orders ≡ false
 kept1 c = sym (c .before .outside .ensures) ∙ c .if1 .left
 
 kept2 : (c : tie.Else2) → outside (c .before .before .before .before .args .rate) 8000 192000 ≡ false

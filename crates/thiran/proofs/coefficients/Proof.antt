@@ -54,6 +54,10 @@ module _ (c : tie.After-set) where
   unfolding padded
   second = cast (c .set .result .a2) (A 1) (small 1) (ap (λ (r : Coefficients). r .a2) (c .set .ensures))
 
+  third : Cast (c .set .result .a3) (A 2)
+  unfolding padded
+  third = cast (c .set .result .a3) (A 2) (small 2) (ap (λ (r : Coefficients). r .a3) (c .set .ensures))
+
 refused-requires : tie.Need-refused-requires
 refused-requires c κs = search needs
 
@@ -61,7 +65,7 @@ returns : tie.Need-returns
 returns c =
     let s = c .before .before .args in
     let e = c .before .refused .ensures in
-    ap (λ (n : ℕ). record { refusal = n; a1 = pos 0; a2 = pos 0 }) e
+    ap (λ (n : ℕ). record { refusal = n; a1 = pos 0; a2 = pos 0; a3 = pos 0 }) e
     ∙ sym (design-refused (s .order) (s .d) (λ z. c .if1 .taken (e ∙ z)))
 
 set-requires : tie.Need-set-requires
@@ -73,10 +77,15 @@ cast-t6 c = first (c .before .before) .0
 cast-t7 : tie.Need-cast-t7
 cast-t7 c = second (c .before .before .before .before) .0
 
+cast-t8 : tie.Need-cast-t8
+cast-t8 c = third (c .before .before .before .before .before .before) .0
+
 returns-2 : tie.Need-returns-2
 returns-2 c =
-    let b = c .before .before .before .before in
-    rw (first b .1, second b .1) (sym (design-taken (N (b .before)) (d (b .before)) (taken (b .before))))
+    let b = c .before .before .before .before .before .before in
+    rw (first b .1, second b .1, third b .1)
+    (sym (design-taken (N (b .before)) (d (b .before)) (taken (b .before))))
 
 pub coefficients-spec : {M : Type 1} → statement M
-coefficients-spec = tie.close (tie.spec refused-requires returns set-requires cast-t6 cast-t7 returns-2)
+coefficients-spec =
+    tie.close (tie.spec refused-requires returns set-requires cast-t6 cast-t7 cast-t8 returns-2)

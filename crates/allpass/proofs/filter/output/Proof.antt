@@ -6,20 +6,17 @@ use Prim.Native.Nat.{_≤_}
 use native.Mathlib.Omega.{arith}
 use borrow.Author.Needs.{needs}
 use lib.IntN.{ℤ, pos, _+ℤ_}
-use lib.ListN.{length, length-reverse}
 use mir.Syntax.{w64}
 use mir.Val.{SFits, toZ, ofZ}
 use mir.Facts.{toZ-ofZ}
 use Rattle.integer.specs.Rounding.{R}
 use Rattle.integer.proofs.View.{abs-fits, read}
 use Rattle.integer.proofs.Ring.{abs-+}
-use Rattle.refusal.specs.Orders.{orders}
 use Rattle.thiran.specs.Answers.{taps}
 use Rattle.thiran.specs.Coefficients.{norm}
 use Rattle.allpass.specs.Allpass.{dot, final}
 use Rattle.allpass.specs.Stored.{held}
 use Rattle.allpass.proofs.Bounds.{R-within, final-within, norm-reverse}
-use Rattle.allpass.proofs.Stored.{length-taps, norm-all, within-all, dot-all}
 use Rattle.allpass.proofs.filter.output.Statement.{statement}
 use Rattle.allpass.proofs.filter.output.Tie as tie
 
@@ -32,9 +29,6 @@ module _ (s : tie.Start) where
 
   abbrev x : ℤ
   x = final (pos 0) (held (s .args .order) (s .args .v))
-
-  few : length (reverse A) ≤ orders
-  few = omega (arith, length-reverse A, length-taps (s .args .order) (s .args .c) (s .pre .0 .most))
 
   small : norm (reverse A) ≤ 32768
   small = omega (arith, norm-reverse A [], s .pre .0 .taps-small)
@@ -52,9 +46,7 @@ turned-requires c κs = search needs
 weighed-requires : tie.Need-weighed-requires
 weighed-requires c κs =
     let s = c .before in
-    let n = norm-all (c .turned .result) (reverse (A s)) (c .turned .ensures) (few s) in
-    let k = small s in
-    (omega arith, within-all (s .args .s) (v s) (s .pre .0 .state-past) (s .pre .0 .state-within))
+    (s .pre .0 .least, s .pre .0 .most, rw (c .turned .ensures) (small s), s .pre .0 .state-within)
 
 oldest-requires : tie.Need-oldest-requires
 oldest-requires c κs = search needs
@@ -62,10 +54,8 @@ oldest-requires c κs = search needs
 weighed-is : (c : tie.After-weighed)
     → c .weighed .result .n ≡ R (dot (reverse (A (c .before .before))) (v (c .before .before)))
 weighed-is c =
-    let t = c .before .turned in
     let s = c .before .before in
-    let i = s .pre .0 .state-past in
-    c .weighed .ensures ∙ ap R (dot-all (t .result) (s .args .s) (reverse (A s)) (v s) (t .ensures) i (few s))
+    c .weighed .ensures ∙ ap (λ (B : List ℤ). R (dot B (v s))) (c .before .turned .ensures)
 
 module _ (c : tie.After-struct-told2) where
   abbrev after : tie.After-oldest

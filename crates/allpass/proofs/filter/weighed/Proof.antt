@@ -1,96 +1,184 @@
--- `allpass::filter::weighed` meets its contract: the products and their sum are at most 32,768 times 2M.
+-- `allpass::filter::weighed` meets its contract: the sum of each order is that of proofs/Sums.antt.
 -- Assumes nothing.
-use mathlib.Core.Path.{_≡_}
+use mathlib.Core.Path.{_≡_, subst}
 use mathlib.Core.List.{[], _∷_}
-use Prim.Native.Nat.{_*_, _≤_, _^_}
+use Prim.Native.Nat.{ℕ, _*_, _≤_}
 use native.Mathlib.Omega.{arith}
-use native.Mathlib.Nat.{mul-le-mul, mul-le-mul-right}
-use lib.IntN.{ℤ, natAbs, _+ℤ_, _*ℤ_, +ℤ-idr}
-use mir.Syntax.{w64}
-use mir.Val.{SFits, toZ, ofZ}
-use mir.Facts.{toZ-ofZ}
 use Rattle.integer.specs.Rounding.{M}
-use Rattle.integer.proofs.View.{abs-fits}
-use Rattle.integer.proofs.Ring.{abs-*}
-use Rattle.allpass.proofs.Bounds.{head-within, tail-within, dot-within}
+use Rattle.thiran.specs.Coefficients.{norm}
+use Rattle.thiran.specs.Answers.{taps}
+use Rattle.thiran.specs.declared.formula.Coefficients.{Coefficients}
+use Rattle.allpass.specs.Bounds.{Within}
+use Rattle.allpass.specs.Stored.{held}
+use Rattle.allpass.specs.declared.State.{State}
+use Rattle.allpass.proofs.Bounds.{tail-within}
+use Rattle.allpass.proofs.Sums.{times, z, fits, small, sum-fits, sum-1, rest-2, sum-2}
+use Rattle.allpass.proofs.Sums.{last-3, rest-3, sum-3}
 use Rattle.allpass.proofs.filter.weighed.Statement.{statement}
 use Rattle.allpass.proofs.filter.weighed.Tie as tie
 
--- what the machine reads back of z
-abbrev back : ℤ → ℤ
-back z = toZ w64 (ofZ w64 z)
+-- what is required, at the number N that the order is
+module _ (s : tie.Start) (N : ℕ) (e : s .args .order ≡ N) where
+  normed : norm (taps N (s .args .c)) ≤ 32768
+  normed = subst (λ (m : ℕ). norm (taps m (s .args .c)) ≤ 32768) e (s .pre .2)
 
--- ---- one product
-module _ (a x : ℤ) (p : natAbs a ≤ 32768) (q : natAbs x ≤ 2 * M) where
-  factors : back a *ℤ back x ≡ a *ℤ x
-  factors = rw (toZ-ofZ (abs-fits w64 a (omega arith)), toZ-ofZ (abs-fits w64 x (omega arith)))
+  bounded : Within (2 * M) (held N (s .args .v))
+  bounded = subst (λ (m : ℕ). Within (2 * M) (held m (s .args .v))) e (s .pre .3)
 
-  product-fits : SFits w64 (a *ℤ x)
-  product-fits = abs-fits w64 (a *ℤ x) (omega (arith, abs-* a x, mul-le-mul p q))
+-- ---- order 1
+module _ (t : tie.Then1) where
+  abbrev c-1 : Coefficients
+  c-1 = t .before .args .c
 
-  fits : SFits w64 (back a *ℤ back x)
-  fits = rw factors product-fits
+  abbrev v-1 : State
+  v-1 = t .before .args .v
 
-  product : back (back a *ℤ back x) ≡ a *ℤ x
-  product = rw factors (toZ-ofZ product-fits)
+  n-1 : norm (taps 1 c-1) ≤ 32768
+  n-1 = normed (t .before) 1 (t .if1 .taken)
 
--- ---- both, and their sum
-module _ (s : tie.Start) where
-  abbrev a1 : ℤ
-  a1 = s .args .c .a1
+  h-1 : Within (2 * M) (held 1 v-1)
+  h-1 = bounded (t .before) 1 (t .if1 .taken)
 
-  abbrev a2 : ℤ
-  a2 = s .args .c .a2
-
-  abbrev v1 : ℤ
-  v1 = s .args .v .v1
-
-  abbrev v2 : ℤ
-  v2 = s .args .v .v2
-
-  v1-small : natAbs v1 ≤ 2 * M
-  v1-small = head-within v1 (s .pre .1)
-
-  v2-small : natAbs v2 ≤ 2 * M
-  v2-small = head-within v2 (tail-within (s .pre .1))
-
-  first : back (back a1 *ℤ back v1) ≡ a1 *ℤ v1
-  first = product a1 v1 (omega arith) v1-small
-
-  second : back (back a2 *ℤ back v2) ≡ a2 *ℤ v2
-  second = product a2 v2 (omega arith) v2-small
-
-  sum-small : natAbs (a1 *ℤ v1 +ℤ a2 *ℤ v2) ≤ 2 ^ 39
-  sum-small =
-      rw (← +ℤ-idr (a2 *ℤ v2))
-      (omega (arith, dot-within (a1 ∷ a2 ∷ []) (s .pre .1), mul-le-mul-right (2 * M) (s .pre .0)))
-
-  sum-fits : SFits w64 (a1 *ℤ v1 +ℤ a2 *ℤ v2)
-  sum-fits = abs-fits w64 (a1 *ℤ v1 +ℤ a2 *ℤ v2) (omega (arith, sum-small))
-
-  sum : back (back (back a1 *ℤ back v1) +ℤ back (back a2 *ℤ back v2)) ≡ a1 *ℤ v1 +ℤ a2 *ℤ v2
-  sum = rw (first, second) (toZ-ofZ sum-fits)
-
-mul-t3 : tie.Need-mul-t3
-mul-t3 c = let s = c .before .before .before .before in fits (a1 s) (v1 s) (omega arith) (v1-small s)
-
-module _ (c : tie.After-struct-told4) where
-  abbrev start : tie.Start
-  start = c .before .before .before .before .before .before .before .before
-
-mul-t4 : tie.Need-mul-t4
-mul-t4 c = let s = start c in fits (a2 s) (v2 s) (omega arith) (v2-small s)
-
-add-t5 : tie.Need-add-t5
-add-t5 c = let s = start c in rw (first s, second s) (sum-fits s)
+mul-t5 : tie.Need-mul-t5
+mul-t5 c =
+    let t = c .before .before .before .before in
+    fits (c-1 t .a1) (v-1 t .v1) [] [] (n-1 t) (h-1 t)
 
 round-q16-requires : tie.Need-round-q16-requires
-round-q16-requires c κs = let s = start c in rw (sum s) (sum-small s)
+round-q16-requires c κs =
+    let t = c .before .before .before .before in
+    rw (sum-1 (c-1 t) (v-1 t) (n-1 t) (h-1 t)) (small (c-1 t .a1) (v-1 t .v1) [] [] (n-1 t) (h-1 t))
 
 returns : tie.Need-returns
 returns c =
-    let s = start (c .before) in
-    rw (+ℤ-idr (a2 s *ℤ v2 s)) (rw (sum s) at (c .round-q16 .ensures))
+    let t = c .before .before .before .before .before in
+    rw (t .if1 .taken) (rw (sum-1 (c-1 t) (v-1 t) (n-1 t) (h-1 t)) at (c .round-q16 .ensures))
+
+-- ---- order 2
+module _ (t : tie.Then2) where
+  abbrev c-2 : Coefficients
+  c-2 = t .before .before .args .c
+
+  abbrev v-2 : State
+  v-2 = t .before .before .args .v
+
+  n-2 : norm (taps 2 c-2) ≤ 32768
+  n-2 = normed (t .before .before) 2 (t .if2 .taken)
+
+  h-2 : Within (2 * M) (held 2 v-2)
+  h-2 = bounded (t .before .before) 2 (t .if2 .taken)
+
+mul-t7 : tie.Need-mul-t7
+mul-t7 c =
+    let t = c .before .before .before .before in
+    fits (c-2 t .a1) (v-2 t .v1) (c-2 t .a2 ∷ []) (v-2 t .v2 ∷ []) (n-2 t) (h-2 t)
+
+abbrev then-2 : tie.After-struct-told6 → tie.Then2
+then-2 c = c .before .before .before .before .before .before .before .before
+
+mul-t8 : tie.Need-mul-t8
+mul-t8 c =
+    let t = then-2 c in
+    let n = n-2 t in
+    fits (c-2 t .a2) (v-2 t .v2) [] [] (omega arith) (tail-within (h-2 t))
+
+add-t9 : tie.Need-add-t9
+add-t9 c =
+    let t = then-2 c in
+    sum-fits (c-2 t .a1) (v-2 t .v1) (c-2 t .a2 ∷ []) (v-2 t .v2 ∷ []) (n-2 t) (h-2 t)
+    (times (c-2 t .a2) (v-2 t .v2)) (rest-2 (c-2 t) (v-2 t) (n-2 t) (h-2 t))
+
+round-q16-requires-2 : tie.Need-round-q16-requires-2
+round-q16-requires-2 c κs =
+    let t = then-2 c in
+    rw (sum-2 (c-2 t) (v-2 t) (n-2 t) (h-2 t))
+    (small (c-2 t .a1) (v-2 t .v1) (c-2 t .a2 ∷ []) (v-2 t .v2 ∷ []) (n-2 t) (h-2 t))
+
+returns-2 : tie.Need-returns-2
+returns-2 c =
+    let t = then-2 (c .before) in
+    rw (t .if2 .taken) (rw (sum-2 (c-2 t) (v-2 t) (n-2 t) (h-2 t)) at (c .round-q162 .ensures))
+
+-- ---- order 3
+module _ (t : tie.Else2) where
+  abbrev c-3 : Coefficients
+  c-3 = t .before .before .args .c
+
+  abbrev v-3 : State
+  v-3 = t .before .before .args .v
+
+  three : t .before .before .args .order ≡ 3
+  three = omega arith
+
+  n-3 : norm (taps 3 c-3) ≤ 32768
+  n-3 = normed (t .before .before) 3 three
+
+  h-3 : Within (2 * M) (held 3 v-3)
+  h-3 = bounded (t .before .before) 3 three
+
+mul-t11 : tie.Need-mul-t11
+mul-t11 c =
+    let t = c .before .before .before .before in
+    fits (c-3 t .a1) (v-3 t .v1) (c-3 t .a2 ∷ c-3 t .a3 ∷ []) (v-3 t .v2 ∷ v-3 t .v3 ∷ []) (n-3 t) (h-3 t)
+
+mul-t12 : tie.Need-mul-t12
+mul-t12 c =
+    let t = c .before .before .before .before .before .before .before .before in
+    let n = n-3 t in
+    fits (c-3 t .a2) (v-3 t .v2) (c-3 t .a3 ∷ []) (v-3 t .v3 ∷ []) (omega arith) (tail-within (h-3 t))
+
+abbrev else-3 : tie.After-struct-told12 → tie.Else2
+else-3 c =
+    let b = c .before .before .before .before .before .before in
+    b .before .before .before .before .before .before
+
+mul-t13 : tie.Need-mul-t13
+mul-t13 c =
+    let t = else-3 c in
+    let n = n-3 t in
+    fits (c-3 t .a3) (v-3 t .v3) [] [] (omega arith) (tail-within (tail-within (h-3 t)))
+
+add-t14 : tie.Need-add-t14
+add-t14 c =
+    let t = else-3 c in
+    let n = n-3 t in
+    sum-fits (c-3 t .a2) (v-3 t .v2) (c-3 t .a3 ∷ []) (v-3 t .v3 ∷ []) (omega arith) (tail-within (h-3 t))
+    (times (c-3 t .a3) (v-3 t .v3)) (last-3 (c-3 t) (v-3 t) (n-3 t) (h-3 t))
+
+add-t15 : tie.Need-add-t15
+add-t15 c =
+    let t = else-3 c in
+    sum-fits (c-3 t .a1) (v-3 t .v1) (c-3 t .a2 ∷ c-3 t .a3 ∷ []) (v-3 t .v2 ∷ v-3 t .v3 ∷ []) (n-3 t) (h-3 t)
+    (z (c-3 t) (v-3 t) (n-3 t) (h-3 t)) (rest-3 (c-3 t) (v-3 t) (n-3 t) (h-3 t))
+
+round-q16-requires-3 : tie.Need-round-q16-requires-3
+round-q16-requires-3 c κs =
+    let t = else-3 c in
+    let A = c-3 t .a2 ∷ c-3 t .a3 ∷ [] in
+    rw (sum-3 (c-3 t) (v-3 t) (n-3 t) (h-3 t))
+    (small (c-3 t .a1) (v-3 t .v1) A (v-3 t .v2 ∷ v-3 t .v3 ∷ []) (n-3 t) (h-3 t))
+
+returns-3 : tie.Need-returns-3
+returns-3 c =
+    let t = else-3 (c .before) in
+    rw (three t) (rw (sum-3 (c-3 t) (v-3 t) (n-3 t) (h-3 t)) at (c .round-q163 .ensures))
 
 pub weighed-spec : {M : Type 1} → statement M
-weighed-spec = tie.close (tie.spec mul-t3 mul-t4 add-t5 round-q16-requires returns)
+weighed-spec =
+    tie.close
+    (tie.spec
+    mul-t5
+    round-q16-requires
+    returns
+    mul-t7
+    mul-t8
+    add-t9
+    round-q16-requires-2
+    returns-2
+    mul-t11
+    mul-t12
+    mul-t13
+    add-t14
+    add-t15
+    round-q16-requires-3
+    returns-3)

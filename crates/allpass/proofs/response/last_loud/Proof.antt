@@ -2,15 +2,16 @@
 -- found, with what is still to come, is what is found of all values. The measure is what is to come. Assumes
 -- nothing.
 use mathlib.Core.Path.{_≡_, ap, _∙_}
-use mathlib.Core.List.{List, _∷_}
+use mathlib.Core.List.{List, [], _∷_}
 use Prim.Native.Nat.{ℕ, suc, _+_, _-_, _≤_}
 use native.Mathlib.Omega.{arith}
+use borrow.Author.Needs.{needs}
 use lib.IntN.{ℤ, pos}
 use lib.ListN.{replicate}
 use Rattle.thiran.specs.Answers.{taps}
 use Rattle.allpass.specs.Allpass.{inners}
 use Rattle.allpass.specs.Length.{response, lastAbove}
-use Rattle.allpass.specs.Stored.{held, Fed}
+use Rattle.allpass.specs.Stored.{stored, held, Fed}
 use Rattle.allpass.proofs.Last.{found, found-all, found-next}
 use Rattle.allpass.proofs.Stored.{fed-next, fed-rest, held-rest}
 use Rattle.allpass.proofs.response.last_loud.Statement.{statement}
@@ -27,11 +28,14 @@ abbrev μ-loop : tie.MeasureT-loop
 μ-loop order c threshold v₀ last₀ index₀ v last index = 64 - index
 
 first : (s : tie.Start Inv-loop μ-loop)
-    → Fed (s .args .order) (s .args .c) (record { v1 = pos 0; v2 = pos 0 }) (pos 1000000)
-first s = fed-rest (pos 1000000) (s .pre .0) (s .pre .1) (s .pre .2) (s .pre .3) (omega arith)
+    → Fed (s .args .order) (s .args .c) (stored []) (pos 1000000)
+first s = fed-rest (pos 1000000) (s .pre .0) (s .pre .1) (s .pre .2) (omega arith)
+
+at-rest-requires : tie.Need-at-rest-requires Inv-loop μ-loop
+at-rest-requires c κs = search needs
 
 eliminate-requires : tie.Need-eliminate-requires Inv-loop μ-loop
-eliminate-requires c κs = first c
+eliminate-requires c κs = rw (c .at-rest .ensures) (first (c .before))
 
 later-requires : tie.Need-later-requires Inv-loop μ-loop
 later-requires c κs = omega arith
@@ -39,12 +43,12 @@ later-requires c κs = omega arith
 loop-holds : tie.Need-loop-holds Inv-loop μ-loop
 unfolding response
 loop-holds c =
-    let s = c .before .before in
+    let s = c .before .before .before in
     let N = s .args .order in
     let A = taps N (s .args .c) in
     let t = s .args .threshold in
     let v = c .before .eliminate .result in
-    let e = c .before .eliminate .ensures in
+    let e = rw (c .before .before .at-rest .ensures) at (c .before .eliminate .ensures) in
     let h = first s in
     let zeros = replicate 63 (pos 0) in (
       rw e (fed-next h (pos 0) (omega arith)),
@@ -70,7 +74,7 @@ loop-less c = omega arith
 loop-again : tie.Need-loop-again Inv-loop μ-loop
 loop-again c =
     let l = c .before .before .before .loop in
-    let s = c .before .before .before .before .before .before in
+    let s = c .before .before .before .before .before .before .before in
     let N = s .args .order in
     let A = taps N (s .args .c) in
     let t = s .args .threshold in
@@ -98,6 +102,7 @@ last-loud-spec =
     (tie.spec
     Inv-loop
     μ-loop
+    at-rest-requires
     eliminate-requires
     later-requires
     loop-holds

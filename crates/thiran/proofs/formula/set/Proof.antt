@@ -49,22 +49,46 @@ next-requires c κs = search needs
 next-requires-2 : tie.Need-next-requires-2
 next-requires-2 c κs = search needs
 
+next-requires-3 : tie.Need-next-requires-3
+next-requires-3 c κs = search needs
+
 rounded-requires : tie.Need-rounded-requires
-rounded-requires c κs = fraction-roundable (c .before .before) 1 (lit≤ tt) (c .before .next .ensures)
+rounded-requires c κs =
+    let b = c .before .before in
+    fraction-roundable (b .before) 1 (lit≤ tt) (b .next .ensures)
 
 rounded-requires-2 : tie.Need-rounded-requires-2
 rounded-requires-2 c κs =
-    fraction-roundable (c .before .before .before) 2 (lit≤ tt) (c .before .next2 .ensures)
+    let b = c .before .before in
+    fraction-roundable (b .before .before) 2 (lit≤ tt) (b .next2 .ensures)
+
+rounded-requires-3 : tie.Need-rounded-requires-3
+rounded-requires-3 c κs =
+    let b = c .before .before in
+    fraction-roundable (b .before .before .before) 3 (lit≤ tt) (b .next3 .ensures)
 
 returns : tie.Need-returns
 unfolding padded
 returns c =
-    let b = c .before .before .before in
-    let s = b .before .before .before in
+    let r3 = c .before .before .before in
+    let r1 = r3 .before .before in
+    let p3 = r1 .before in
+    let p1 = p3 .before .before in
+    let s = p1 .before in
     rw (
-      rounded-at s 0 (b .before .before .next .ensures) (b .rounded .ensures),
-      rounded-at s 1 (b .before .next2 .ensures) (c .before .before .rounded2 .ensures),
+      rounded-at s 0 (p1 .next .ensures) (r1 .rounded .ensures),
+      rounded-at s 1 (p3 .before .next2 .ensures) (r3 .before .rounded2 .ensures),
+      rounded-at s 2 (p3 .next3 .ensures) (r3 .rounded3 .ensures),
     )
 
 pub set-spec : {M : Type 1} → statement M
-set-spec = tie.close (tie.spec next-requires next-requires-2 rounded-requires rounded-requires-2 returns)
+set-spec =
+    tie.close
+    (tie.spec
+    next-requires
+    next-requires-2
+    next-requires-3
+    rounded-requires
+    rounded-requires-2
+    rounded-requires-3
+    returns)
