@@ -1,5 +1,5 @@
 /* Each routine of include/jivaszte.h called from C, refused too. Prints examples/calls.txt, as calls.rs does. */
-#include "../include/jivaszte.h"
+#include <jivaszte.h>
 #include <stdio.h>
 #include <stdlib.h>
 
@@ -199,6 +199,9 @@ int main(void)
     wav_read("in two places", file, sizeof file, 2);
     wav_read("without its pad byte", file, sizeof file - 1, 4);
     wav_read("of nothing", file, 0, 4);
+    printf("version %s: %u\n", JIVASZTE_VERSION, jivaszte_version());
+    if (jivaszte_version() != JIVASZTE_VERSION_NUMBER)
+        return 1;
     for (uint32_t number = JIVASZTE_DONE; number <= JIVASZTE_NOTHING_ASKED; number++)
         if (jivaszte_words(number) == jivaszte_words(JIVASZTE_NOTHING_ASKED + 1))
             return 1;

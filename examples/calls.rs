@@ -1,58 +1,70 @@
 //! Each routine of include/jivaszte.h called from Rust, refused too. Prints examples/calls.txt, as calls.c does.
-mod jivaszte;
+use jivaszte::{Opening, Refusal};
+use std::fmt::Display;
+
+/// What a call returned, in words that calls.c prints too.
+fn said(result: Result<String, Refusal>) -> String {
+    result.unwrap_or_else(|refusal| format!("refused by {}", refusal.number()))
+}
+
+fn joined<T: Display>(values: &[T]) -> String {
+    values.iter().map(|value| format!(" {value}")).collect()
+}
 
 fn coefficients(order: u32, delay: u32) {
-    match jivaszte::coefficients(order, delay) {
-        Ok([a1, a2, a3]) => println!("coefficients {order} {delay}: {a1} {a2} {a3}"),
-        Err(refusal) => println!("coefficients {order} {delay}: refused by {refusal}"),
-    }
+    let a = jivaszte::coefficients(order, delay).map(|a| joined(&a).trim_start().to_string());
+    println!("coefficients {order} {delay}: {}", said(a));
 }
 
 fn effective_length(order: u32, delay: u32, threshold: u32) {
-    match jivaszte::effective_length(order, delay, threshold) {
-        Ok(length) => println!("effective length {order} {delay} {threshold}: {length}"),
-        Err(refusal) => println!("effective length {order} {delay} {threshold}: refused by {refusal}"),
-    }
+    let length = jivaszte::effective_length(order, delay, threshold).map(|length| length.to_string());
+    println!("effective length {order} {delay} {threshold}: {}", said(length));
 }
 
 fn note(order: u32, rate: u32, number: u32) {
-    match jivaszte::note(order, rate, number) {
-        Ok((length, delay)) => println!("note {order} {rate} {number}: {length} {delay}"),
-        Err(refusal) => println!("note {order} {rate} {number}: refused by {refusal}"),
-    }
+    let tuning = jivaszte::note(order, rate, number).map(|(length, delay)| format!("{length} {delay}"));
+    println!("note {order} {rate} {number}: {}", said(tuning));
 }
 
+/// Prints the nine numbers of C: the refusal, the bit map, and the fields, 0 where they are absent.
 fn record(what: &str, score: &[u8]) {
-    let (rest, fields) = jivaszte::record(score);
-    print!("record {what}: takes {},", score.len() - rest.len());
-    fields.iter().for_each(|n| print!(" {n}"));
-    println!();
+    let (refusal, record, rest) = match jivaszte::record(score) {
+        Ok((record, rest)) => (0, record, rest),
+        Err(refusal) => (refusal.number(), jivaszte::Record::default(), score),
+    };
+    let r = record;
+    let fields = [r.wait, r.length, r.delay, r.loss, r.amplitude, r.count, r.seed];
+    let bits = (0..).zip(fields).map(|(bit, field)| u32::from(field.is_some()) << bit);
+    let map = bits.sum::<u32>() + (u32::from(r.instant) << 7);
+    let numbers = fields.map(|field| field.unwrap_or(0));
+    println!("record {what}: takes {}, {refusal} {map}{}", score.len() - rest.len(), joined(&numbers));
 }
 
 fn run(what: &str, score: &[u8], room: usize) {
     let mut output = [7; 16];
-    let r = jivaszte::run(score, &mut output[..room]);
-    print!("run {what}: {} {} {},", r.refusal, r.place, r.written);
-    output.iter().for_each(|y| print!(" {y}"));
-    println!();
+    let (number, place, written) = match jivaszte::run(score, &mut output[..room]) {
+        Ok(played) => (0, played.records, played.written),
+        Err(stopped) => (stopped.refusal.number(), stopped.place, stopped.written),
+    };
+    println!("run {what}: {number} {place} {written},{}", joined(&output));
 }
 
 fn perform(what: &str, order: u32, advance: u32, words: &[u32]) {
     let input = [1000, 0, 0, 0, 0, 0, 0, 0];
     let (mut output, mut numbers) = ([7; 12], [77; 6]);
-    let r = jivaszte::perform([order, 3, 4096, 32_768, advance], words, &input, &mut output, &mut numbers);
-    print!("perform {what}: {} {} {},", r.refusal, r.opening, r.written);
-    numbers.iter().for_each(|n| print!(" {n}"));
-    print!(",");
-    output.iter().for_each(|y| print!(" {y}"));
-    println!();
+    let opening = Opening { order, length: 3, delay: 4096, loss: 32_768, advance };
+    let (refusal, opened, written) = match jivaszte::perform(opening, words, &input, &mut output, &mut numbers) {
+        Ok(done) => (0, done.opening.map_or_else(Refusal::number, |()| 0), done.written),
+        Err(refusal) => (refusal.number(), 0, 0),
+    };
+    println!("perform {what}: {refusal} {opened} {written},{},{}", joined(&numbers), joined(&output));
 }
 
 fn wav_write(rate: u32, samples: &[i32], room: usize) {
     let mut file = [77; 56];
     let (refusal, bytes) = match jivaszte::wav_write(rate, samples, &mut file[..room]) {
         Ok(bytes) => (0, bytes),
-        Err(refusal) => (refusal, 0),
+        Err(refusal) => (refusal.number(), 0),
     };
     print!("wav of {} samples at {rate} in {room} bytes: {refusal} {bytes},", samples.len());
     file.iter().for_each(|byte| print!(" {byte:02x}"));
@@ -63,7 +75,7 @@ fn wav_read(what: &str, file: &[u8], room: usize) {
     let mut samples = [77; 4];
     let (refusal, rate, count) = match jivaszte::wav_read(file, &mut samples[..room]) {
         Ok((rate, count)) => (0, rate, count),
-        Err(refusal) => (refusal, 0, 0),
+        Err(refusal) => (refusal.number(), 0, 0),
     };
     print!("wav read {what}: {refusal} {rate} {count},");
     samples.iter().for_each(|sample| print!(" {sample}"));
@@ -136,4 +148,5 @@ fn main() {
     wav_read("in two places", &file, 2);
     wav_read("without its pad byte", &file[..file.len() - 1], 4);
     wav_read("of nothing", &[], 4);
+    println!("version {}: {}", jivaszte::VERSION, jivaszte::version());
 }

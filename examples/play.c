@@ -1,7 +1,7 @@
 /* Plays a score in C: reads its bytes from standard input, prints each sample on a line, then `end` and what the run
    returned, as the program of crates/player does. Words of a refusal go to standard error. `play NAME` writes the samples
    to the file NAME too, as a WAV of 44,100 samples a second. */
-#include "../include/jivaszte.h"
+#include <jivaszte.h>
 #include <stdio.h>
 
 static uint8_t score[32768];

@@ -1,5 +1,5 @@
-/* Jivaszte for C: the routines of target/staticlib/libjivaszte.a, which `rt staticlib jivaszte` proves and
-   writes.
+/* Jivaszte for C: the routines of libjivaszte.a, which `rt staticlib jivaszte` proves and writes, and `make install` puts
+   where `cc host.c $(pkg-config --cflags --libs jivaszte)` finds it.
 
    Every routine is safe for every number and every byte. Of its pointers a caller owes what C always asks: none is
    null, not even with length 0; each refers to as many values as its length or its type says; and what is written
@@ -17,6 +17,12 @@
 #ifdef __cplusplus
 extern "C" {
 #endif
+
+/* The version of this header; jivaszte_version returns that of the library, as such a number: 10,000 times the first
+   number, 100 times the second, and the third. */
+#define JIVASZTE_VERSION "0.1.0"
+#define JIVASZTE_VERSION_NUMBER 100
+uint32_t jivaszte_version(void);
 
 /* The numbers by which calls refuse. */
 enum {

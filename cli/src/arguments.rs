@@ -1,18 +1,15 @@
 //! The words of a call: its files or names, and its options.
 
+use crate::click::MOST_ADVANCE;
 use crate::failure::{Failure, Outcome};
+use crate::options::{missing, option, takes_value, unknown};
+use crate::text::Instead;
 use crate::tuning::{ORDERS, RATES};
 use std::ffi::OsString;
 use std::ops::RangeInclusive;
 use std::path::{Path, PathBuf};
 
-/// The options: the letter, the long name, and what follows it.
-const OPTIONS: [(char, &str, &str); 4] = [
-    ('o', "output", "a file"),
-    ('r', "rate", "a rate"),
-    ('n', "order", "an order"),
-    ('d', "delay", "a delay"),
-];
+const ADVANCES: RangeInclusive<u32> = 0..=MOST_ADVANCE;
 
 #[derive(Debug, Default, PartialEq, Eq)]
 pub struct Arguments {
@@ -34,8 +31,14 @@ impl Arguments {
                 Some("--help" | "-h") if !plain => arguments.help = true,
                 Some(text) if !plain && text.starts_with('-') && text != "-" => {
                     let (letter, value) = option(command, text, letters)?;
-                    let value = value.or_else(|| given.next().cloned());
-                    let value = value.ok_or_else(|| missing(text, letter))?;
+                    let value = match (takes_value(letter), value) {
+                        (true, None) => {
+                            given.next().cloned().ok_or_else(|| missing(text, letter))?
+                        }
+                        (true, Some(value)) => value,
+                        (false, None) => OsString::new(),
+                        (false, Some(_)) => return Err(unknown(command, text)),
+                    };
                     if arguments.values.iter().any(|(before, _)| *before == letter) {
                         return Err(Failure::call(format!("{text} is given twice")));
                     }
@@ -73,41 +76,38 @@ impl Arguments {
         self.number('n', "the order", ORDERS)
     }
 
+    /// What takes the place of a score's own rate and advance.
+    pub fn instead(&self) -> Outcome<Instead> {
+        let advance = self.number('a', "the advance", ADVANCES)?.map(|advance| advance as u8);
+        Ok(Instead { rate: self.rate()?, advance })
+    }
+
+    /// Advances with commas between them, in place of the score's own.
+    pub fn advances(&self) -> Outcome<Vec<Option<u8>>> {
+        let Some(value) = self.value('a') else { return Ok(vec![None]) };
+        let text = value.to_string_lossy();
+        let read = |part| ranged(part, "the advance", ADVANCES).map(|advance| Some(advance as u8));
+        text.split(',').map(read).collect()
+    }
+
+    pub fn click(&self) -> bool {
+        self.value('c').is_some()
+    }
+
     pub fn delay(&self, delays: RangeInclusive<u32>) -> Outcome<Option<u32>> {
         self.number('d', "the delay", delays)
     }
 
     fn number(&self, letter: char, what: &str, range: RangeInclusive<u32>) -> Outcome<Option<u32>> {
         let Some(value) = self.value(letter) else { return Ok(None) };
-        let number = value.to_str().and_then(|text| text.parse().ok());
-        number.filter(|number| range.contains(number)).map(Some).ok_or_else(|| {
-            let (value, low, high) = (value.to_string_lossy(), range.start(), range.end());
-            Failure::call(format!("{what} is {low} to {high}, not `{value}`"))
-        })
+        ranged(&value.to_string_lossy(), what, range).map(Some)
     }
 }
 
-/// The letter of an option, and its value where the same word has it: `-r48000`, `--rate=48000`.
-fn option(command: &str, text: &str, letters: &str) -> Outcome<(char, Option<OsString>)> {
-    let found = OPTIONS.iter().filter(|(letter, ..)| letters.contains(*letter));
-    let read = |letter: char, long: &str| {
-        let (name, value) = match text.strip_prefix("--") {
-            Some(rest) => {
-                (rest.split('=').next() == Some(long), text.split_once('=').map(|(_, v)| v))
-            }
-            None => {
-                (text[1..].starts_with(letter), text.get(2..).filter(|value| !value.is_empty()))
-            }
-        };
-        name.then(|| (letter, value.map(OsString::from)))
-    };
-    let mut found = found.filter_map(|(letter, long, _)| read(*letter, long));
-    found.next().ok_or_else(|| Failure::call(format!("{command} has no option {text}")))
-}
-
-fn missing(text: &str, letter: char) -> Failure {
-    let what = OPTIONS.iter().find(|(name, ..)| *name == letter).map_or("a value", |found| found.2);
-    Failure::call(format!("{text} needs {what}"))
+fn ranged(value: &str, what: &str, range: RangeInclusive<u32>) -> Outcome<u32> {
+    let number = value.parse().ok().filter(|number| range.contains(number));
+    let (low, high) = (range.start(), range.end());
+    number.ok_or_else(|| Failure::call(format!("{what} is {low} to {high}, not `{value}`")))
 }
 
 #[cfg(test)]

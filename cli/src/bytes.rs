@@ -1,12 +1,11 @@
 //! The bytes of a score, written here and read by the proved reader.
 
-use crate::proved;
 use crate::score::{Change, Header, Pluck, Record, Score};
 use crate::tuning::Tuning;
+use jivaszte::Refusal;
 
 /// "Header, 8 bytes: order and Na, a byte each, then L, d, G as 16-bit numbers, low byte first."
 pub const HEADER_BYTES: usize = 8;
-const CUT_SHORT: u32 = 14;
 /// "Bit 7 has no field and makes the change instant."
 const INSTANT: u8 = 1 << 7;
 
@@ -21,7 +20,7 @@ pub enum Place {
 #[derive(Clone, Copy, Debug, PartialEq, Eq)]
 pub struct Damage {
     pub place: Place,
-    pub refusal: u32,
+    pub refusal: Refusal,
 }
 
 impl std::fmt::Display for Place {
@@ -69,17 +68,15 @@ impl Record {
         }
     }
 
-    /// From the bit map and the seven fields that the proved reader gives.
-    fn of(map: u8, fields: &[u32]) -> Record {
-        let field = |bit: usize| (map >> bit & 1 == 1).then(|| fields[bit] as u16);
-        let (length, delay, instant) = (field(1), field(2), map & INSTANT != 0);
+    /// From what the proved reader gives.
+    fn of(read: jivaszte::Record) -> Record {
+        let jivaszte::Record { wait, length, delay, loss, amplitude, count, seed, instant } = read;
         let changes = length.is_some() || delay.is_some();
-        let (count, seed) = (field(5), field(6));
         Record {
-            wait: field(0),
-            loss: field(3),
+            wait,
+            loss,
             change: changes.then_some(Change { length, delay, instant }),
-            pluck: field(4).map(|amplitude| Pluck { amplitude, count, seed }),
+            pluck: amplitude.map(|amplitude| Pluck { amplitude, count, seed }),
         }
     }
 }
@@ -92,7 +89,7 @@ impl Score {
     }
 
     pub fn decode(bytes: &[u8]) -> Result<Score, Damage> {
-        let cut_short = Damage { place: Place::Header, refusal: CUT_SHORT };
+        let cut_short = Damage { place: Place::Header, refusal: Refusal::CutShort };
         let header = bytes.first_chunk().ok_or(cut_short)?;
         let records = records(bytes).map(|(_, record)| record).collect::<Result<_, _>>()?;
         Ok(Score { header: Header::decode(*header), records })
@@ -105,14 +102,14 @@ pub fn records(bytes: &[u8]) -> impl Iterator<Item = (usize, Result<Record, Dama
     let mut index = 0;
     std::iter::from_fn(move || {
         let offset = bytes.len() - rest.len();
-        let (after, [refusal, map, fields @ ..]) = match rest.is_empty() {
-            true => return None,
-            false => proved::record(rest),
-        };
-        let damage = Damage { place: Place::Record { index, offset }, refusal };
-        rest = if refusal == 0 { after } else { &[] };
+        if rest.is_empty() {
+            return None;
+        }
+        let place = Place::Record { index, offset };
+        let read = jivaszte::record(rest).map_err(|refusal| Damage { place, refusal });
+        rest = read.map_or(&[], |(_, after)| after);
         index += 1;
-        Some((offset, if refusal == 0 { Ok(Record::of(map as u8, &fields)) } else { Err(damage) }))
+        Some((offset, read.map(|(record, _)| Record::of(record))))
     })
 }
 
@@ -131,7 +128,7 @@ mod tests {
                 Ok(score) => assert_eq!(score.encode(), bytes),
                 Err(damage) => {
                     let place = Place::Record { index: 0, offset: 8 };
-                    assert_eq!(damage, Damage { place, refusal: 15 });
+                    assert_eq!(damage, Damage { place, refusal: Refusal::BitMap });
                 }
             }
         }
@@ -143,9 +140,12 @@ mod tests {
         assert_eq!(Score::decode(&bytes).unwrap().records.len(), 2);
         let refused = |bytes: &[u8]| Score::decode(bytes).unwrap_err();
         let second = Place::Record { index: 1, offset: 13 };
-        assert_eq!(refused(&bytes[..7]), Damage { place: Place::Header, refusal: 14 });
-        assert_eq!(refused(&bytes[..15]), Damage { place: second, refusal: 14 });
+        assert_eq!(
+            refused(&bytes[..7]),
+            Damage { place: Place::Header, refusal: Refusal::CutShort }
+        );
+        assert_eq!(refused(&bytes[..15]), Damage { place: second, refusal: Refusal::CutShort });
         let seed_alone = [&bytes[..13], &[64, 0, 0]].concat();
-        assert_eq!(refused(&seed_alone), Damage { place: second, refusal: 15 });
+        assert_eq!(refused(&seed_alone), Damage { place: second, refusal: Refusal::BitMap });
     }
 }

@@ -8,19 +8,20 @@ pub mod commands;
 pub mod decimal;
 pub mod failure;
 pub mod files;
+pub mod ideal;
 pub mod new_file;
 pub mod note;
 pub mod number;
+pub mod options;
+pub mod page;
 pub mod pitch;
+pub mod plot;
 pub mod progress;
-#[rustfmt::skip]
-#[path = "../../examples/jivaszte.rs"]
-pub mod proved;
 pub mod refusal;
 pub mod score;
 pub mod sounding;
 pub mod take;
 pub mod text;
+pub mod timeline;
 pub mod tune;
 pub mod tuning;
-pub mod wav;

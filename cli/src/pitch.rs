@@ -2,9 +2,8 @@
 
 use crate::decimal::Decimal;
 use crate::note;
-use crate::proved;
-use crate::refusal;
 use crate::tuning::{Tuning, PARTS};
+use jivaszte::Refusal;
 
 /// The number of A4, 440 Hz.
 const A4: u32 = 69;
@@ -22,17 +21,17 @@ impl Pitch {
     }
 
     /// Length and delay, or the refusal: by the proved `note` for a note without cents.
-    pub fn tuning(&self, order: u32, rate: u32) -> Result<Tuning, u32> {
+    pub fn tuning(&self, order: u32, rate: u32) -> Result<Tuning, Refusal> {
         let cycle = u64::from(rate) * u64::from(PARTS);
         match self {
             Pitch::Note { note, cents: 0.0 } => {
-                let (length, delay) = proved::note(order, rate, *note)?;
+                let (length, delay) = jivaszte::note(order, rate, *note)?;
                 Ok(Tuning { length: length as u16, delay: delay as u16 })
             }
             Pitch::Note { .. } => {
                 Tuning::of_period(order, (cycle as f64 / self.hertz()).round() as u64)
             }
-            Pitch::Hertz(hertz) if hertz.is_zero() => Err(refusal::NOTE_LENGTH),
+            Pitch::Hertz(hertz) if hertz.is_zero() => Err(Refusal::NoteLength),
             Pitch::Hertz(hertz) => {
                 Tuning::of_period(order, u64::try_from(hertz.under(cycle)).unwrap_or(u64::MAX))
             }
@@ -88,6 +87,6 @@ mod tests {
         let a4 = Pitch::Hertz(Decimal::parse("440.0").unwrap());
         assert_eq!(a4.tuning(1, 44_100), Ok(Tuning { length: 99, delay: 2_979 }));
         let none = Pitch::Hertz(Decimal::parse("0.0").unwrap());
-        assert_eq!(none.tuning(1, 44_100), Err(refusal::NOTE_LENGTH));
+        assert_eq!(none.tuning(1, 44_100), Err(Refusal::NoteLength));
     }
 }

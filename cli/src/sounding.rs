@@ -1,8 +1,7 @@
 //! The pitch at which a tuned voice sounds, worked out from its coefficients.
 
-use crate::proved;
-use crate::refusal;
 use crate::tuning::{Tuning, LENGTHS};
+use jivaszte::Refusal;
 use std::f64::consts::TAU;
 
 /// Units of a coefficient.
@@ -21,11 +20,11 @@ fn filter_delay(coefficients: &[f64], angle: f64) -> f64 {
 
 /// The lowest frequency that comes back in phase after one turn of the loop, in hertz: the line's
 /// length, the filter's delay and the loop filter's half sample are one period. Refuses by 1, 2, 3.
-pub fn hertz(order: u32, rate: u32, tuning: Tuning) -> Result<f64, u32> {
+pub fn hertz(order: u32, rate: u32, tuning: Tuning) -> Result<f64, Refusal> {
     if !LENGTHS.contains(&tuning.length.into()) {
-        return Err(refusal::LENGTH);
+        return Err(Refusal::Length);
     }
-    let given = proved::coefficients(order, tuning.delay.into())?;
+    let given = jivaszte::coefficients(order, tuning.delay.into())?;
     let coefficients: Vec<f64> =
         given.iter().take(order as usize).map(|&a| f64::from(a) / ONE).collect();
     let mut period = f64::from(tuning.period()) / 4_096.0;
@@ -43,7 +42,7 @@ mod tests {
     #[test]
     fn low_notes_sound_as_tuned() {
         for order in ORDERS {
-            let (length, delay) = proved::note(order, 44_100, 45).unwrap();
+            let (length, delay) = jivaszte::note(order, 44_100, 45).unwrap();
             let tuning = Tuning { length: length as u16, delay: delay as u16 };
             assert!((hertz(order, 44_100, tuning).unwrap() - 110.0).abs() < 0.01);
         }

@@ -2,7 +2,7 @@
 
 use crate::bytes::{records, HEADER_BYTES};
 use crate::number::counted;
-use crate::proved;
+use jivaszte::{Refusal, Stopped};
 
 /// M, the greatest sample.
 pub const FULL_SCALE: i32 = 8_388_607;
@@ -10,7 +10,7 @@ pub const FULL_SCALE: i32 = 8_388_607;
 /// A run that was refused: the number, and the index of the record, or none for the header.
 #[derive(Clone, Copy, Debug, PartialEq, Eq)]
 pub struct Refused {
-    pub refusal: u32,
+    pub refusal: Refusal,
     pub record: Option<usize>,
 }
 
@@ -35,18 +35,20 @@ pub fn room(length: u64) -> Option<Vec<i32>> {
 
 /// Runs a score into room that is long enough; gives the samples written.
 pub fn run(bytes: &[u8], mut room: Vec<i32>) -> Result<Vec<i32>, Refused> {
-    let played = proved::run(bytes, &mut room);
-    room.truncate(played.written);
-    match played.refusal {
-        0 => Ok(room),
-        refusal if opens(bytes) => Err(Refused { refusal, record: Some(played.place) }),
-        refusal => Err(Refused { refusal, record: None }),
+    match jivaszte::run(bytes, &mut room) {
+        Ok(played) => {
+            room.truncate(played.written);
+            Ok(room)
+        }
+        Err(Stopped { refusal, place, .. }) => {
+            Err(Refused { refusal, record: opens(bytes).then_some(place) })
+        }
     }
 }
 
 /// Whether the header alone is accepted: the place of a refused header is that of record 0.
 fn opens(bytes: &[u8]) -> bool {
-    bytes.get(..HEADER_BYTES).is_some_and(|header| proved::run(header, &mut []).refusal == 0)
+    bytes.get(..HEADER_BYTES).is_some_and(|header| jivaszte::run(header, &mut []).is_ok())
 }
 
 /// The samples that are as great as a sample can be: how many, and the first of them.
@@ -87,11 +89,14 @@ mod tests {
     #[test]
     fn refusals_have_their_place() {
         let refused = |bytes: &[u8], room| run(bytes, vec![0; room]).unwrap_err();
-        assert_eq!(refused(&PAPER, 9), Refused { refusal: 16, record: Some(1) });
-        assert_eq!(refused(&PAPER[..7], 9), Refused { refusal: 14, record: None });
-        assert_eq!(refused(&[1, 0, 0, 0, 0, 16, 0, 0], 9), Refused { refusal: 2, record: None });
+        assert_eq!(refused(&PAPER, 9), Refused { refusal: Refusal::OutputFull, record: Some(1) });
+        assert_eq!(refused(&PAPER[..7], 9), Refused { refusal: Refusal::CutShort, record: None });
+        assert_eq!(
+            refused(&[1, 0, 0, 0, 0, 16, 0, 0], 9),
+            Refused { refusal: Refusal::Length, record: None }
+        );
         let length_0 = [1, 0, 3, 0, 0, 16, 0, 0, 2, 0, 0];
-        assert_eq!(refused(&length_0, 9), Refused { refusal: 2, record: Some(0) });
+        assert_eq!(refused(&length_0, 9), Refused { refusal: Refusal::Length, record: Some(0) });
     }
 
     #[test]

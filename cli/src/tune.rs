@@ -6,8 +6,9 @@ use crate::files;
 use crate::number::grouped;
 use crate::refusal;
 use crate::take::{self, Refused};
-use crate::text::{compile, Compiled, Fault};
+use crate::text::{compile_with, Compiled, Fault, Instead};
 use crate::tuning::DEFAULT_RATE;
+use jivaszte::Refusal;
 use std::path::Path;
 
 /// Text does not start with a byte below this one, the tab; bytes start with their order.
@@ -21,22 +22,27 @@ pub struct Tune {
 }
 
 impl Tune {
-    /// Reads a file; a rate that is given takes the place of a text's own.
-    pub fn load(path: &Path, rate: Option<u32>) -> Outcome<Tune> {
-        let bytes = files::read(path)?;
-        match looks_like_text(&bytes) {
-            true => Tune::of_text(path, bytes, rate),
-            false => {
-                let rate = rate.unwrap_or(DEFAULT_RATE);
-                Ok(Tune { name: files::input_name(path), bytes, rate, text: None })
-            }
-        }
+    /// Reads a file; a rate and an advance that are given take the place of the score's own.
+    pub fn load(path: &Path, instead: Instead) -> Outcome<Tune> {
+        Tune::of_bytes(path, files::read(path)?, instead)
     }
 
-    pub fn of_text(path: &Path, bytes: Vec<u8>, rate: Option<u32>) -> Outcome<Tune> {
+    /// What stands in a file, text or bytes.
+    pub fn of_bytes(path: &Path, mut bytes: Vec<u8>, instead: Instead) -> Outcome<Tune> {
+        if looks_like_text(&bytes) {
+            return Tune::of_text(path, bytes, instead);
+        }
+        let rate = instead.rate.unwrap_or(DEFAULT_RATE);
+        if let (Some(place), Some(advance)) = (bytes.get_mut(1), instead.advance) {
+            *place = advance;
+        }
+        Ok(Tune { name: files::input_name(path), bytes, rate, text: None })
+    }
+
+    pub fn of_text(path: &Path, bytes: Vec<u8>, instead: Instead) -> Outcome<Tune> {
         let name = files::input_name(path);
         let text = utf8(&name, bytes)?;
-        let compiled = compile(&text, rate).map_err(|faults| {
+        let compiled = compile_with(&text, instead).map_err(|faults| {
             let lines: Vec<String> = faults.iter().map(|fault| located(&name, fault)).collect();
             Failure::input(lines.join("\n"))
         })?;
@@ -63,10 +69,10 @@ impl Tune {
         }
     }
 
-    fn words(&self, refusal: u32) -> String {
+    fn words(&self, refusal: Refusal) -> String {
         let words = refusal::message(refusal);
         match (refusal, self.bytes.get(1)) {
-            (refusal::CHANGE_WAITS, Some(advance)) => {
+            (Refusal::ChangeWaits, Some(advance)) => {
                 let late = format!("{advance} samples (the advance)");
                 format!("{words}: an announced change takes effect {late} after it is called")
             }

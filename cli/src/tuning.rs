@@ -1,6 +1,6 @@
 //! The tuning of a voice: a length in samples and a delay in 1/4,096 of a sample, and its period T.
 
-use crate::refusal;
+use jivaszte::Refusal;
 use std::ops::RangeInclusive;
 
 /// The orders that the library takes. A further order is added here.
@@ -14,7 +14,7 @@ pub const PARTS: u32 = 4_096;
 /// "the 2,048 is the loop filter's half sample"
 const HALF_SAMPLE: u32 = PARTS / 2;
 
-#[derive(Clone, Copy, Debug, Default, PartialEq, Eq)]
+#[derive(Clone, Copy, Debug, Default, PartialEq, Eq, Hash)]
 pub struct Tuning {
     pub length: u16,
     pub delay: u16,
@@ -27,9 +27,9 @@ impl Tuning {
     }
 
     /// "T − 2,048 = 4,096·L + d with d in the order's range", or the refusal.
-    pub fn of_period(order: u32, period: u64) -> Result<Tuning, u32> {
+    pub fn of_period(order: u32, period: u64) -> Result<Tuning, Refusal> {
         if !ORDERS.contains(&order) {
-            return Err(refusal::ORDER);
+            return Err(Refusal::Order);
         }
         let lowest = i64::from(*delays(order).start());
         let parts = i64::from(PARTS);
@@ -37,7 +37,7 @@ impl Tuning {
         let (length, delay) = (past.div_euclid(parts), lowest + past.rem_euclid(parts));
         match LENGTHS.contains(&length) {
             true => Ok(Tuning { length: length as u16, delay: delay as u16 }),
-            false => Err(refusal::NOTE_LENGTH),
+            false => Err(Refusal::NoteLength),
         }
     }
 
@@ -72,10 +72,10 @@ mod tests {
             Tuning::of_period(3, a4.period().into()),
             Ok(Tuning { length: 97, delay: 11_171 })
         );
-        assert_eq!(Tuning::of_period(0, 400_000), Err(refusal::ORDER));
-        assert_eq!(Tuning::of_period(4, 400_000), Err(refusal::ORDER));
-        assert_eq!(Tuning::of_period(1, 0), Err(refusal::NOTE_LENGTH));
-        assert_eq!(Tuning::of_period(1, u64::MAX), Err(refusal::NOTE_LENGTH));
+        assert_eq!(Tuning::of_period(0, 400_000), Err(Refusal::Order));
+        assert_eq!(Tuning::of_period(4, 400_000), Err(Refusal::Order));
+        assert_eq!(Tuning::of_period(1, 0), Err(Refusal::NoteLength));
+        assert_eq!(Tuning::of_period(1, u64::MAX), Err(Refusal::NoteLength));
     }
 
     #[test]

@@ -3,10 +3,10 @@
 mod common;
 
 use common::Random;
-use jivaszte::score::{Change, Header, Pluck, Record, Score};
-use jivaszte::take;
-use jivaszte::text::{compile, show};
-use jivaszte::tuning::{delays, Tuning, ORDERS};
+use jivaszte_cli::score::{Change, Header, Pluck, Record, Score};
+use jivaszte_cli::take;
+use jivaszte_cli::text::{compile, show};
+use jivaszte_cli::tuning::{delays, Tuning, ORDERS};
 
 /// A number that a voice takes, or now and then any number.
 fn number(random: &mut Random, low: u32, high: u32) -> u16 {
@@ -24,7 +24,7 @@ fn maybe<T>(random: &mut Random, make: impl FnOnce(&mut Random) -> T) -> Option<
 /// A tuning of the order, a note's as often as not.
 fn tuning(random: &mut Random, order: u32, rate: u32) -> Tuning {
     let note = 40 + random.below(50) as u32;
-    match jivaszte::proved::note(order, rate, note) {
+    match jivaszte::note(order, rate, note) {
         Ok((length, delay)) if random.one_in(2) => {
             Tuning { length: length as u16, delay: delay as u16 }
         }
@@ -115,7 +115,7 @@ fn any_bytes() {
             }
             Err(damage) => {
                 refused += 1;
-                assert!([14, 15].contains(&damage.refusal), "seed {seed}");
+                assert!([14, 15].contains(&damage.refusal.number()), "seed {seed}");
                 let room = take::room(take::length(&bytes)).unwrap();
                 assert!(take::run(&bytes, room).is_err(), "seed {seed}");
             }

@@ -1,12 +1,13 @@
 //! What the documents show: each line of docs/SCORES.md and of the help compiles, and each demo plays.
 
-use jivaszte::take;
-use jivaszte::text::{compile, Compiled};
+use jivaszte_cli::take;
+use jivaszte_cli::text::{compile, Compiled};
 use std::fs;
 use std::path::{Path, PathBuf};
 
 const SCORES: &str = include_str!("../../docs/SCORES.md");
 const HELP: &str = include_str!("../src/commands/help.txt");
+const MANUAL: &str = include_str!("../../docs/jivaszte.1");
 
 fn compiled(text: &str) -> Compiled {
     compile(text, None).unwrap_or_else(|faults| panic!("{faults:?}\n{text}"))
@@ -93,4 +94,31 @@ fn every_demo_plays_and_none_is_clipped() {
             path.display()
         );
     }
+}
+
+/// The man page has every command of the help and every option, and README.md every command.
+#[test]
+fn the_man_page_has_everything() {
+    let readme = include_str!("../../README.md");
+    let commands: Vec<&str> = HELP
+        .lines()
+        .filter_map(|line| line.strip_prefix("  jivaszte ")?.split([' ', ',']).next())
+        .collect();
+    assert!(commands.len() >= 9, "{commands:?}");
+    for command in commands {
+        assert!(
+            MANUAL.lines().any(|line| line == format!(".B {command}")),
+            "the man page: {command}"
+        );
+        assert!(readme.contains(&format!("| `jivaszte {command}")), "README.md: {command}");
+    }
+    for (letter, long, _) in jivaszte_cli::options::OPTIONS {
+        let option = format!(".BR \\-{letter} \", \" \\-\\-{long}");
+        assert!(MANUAL.lines().any(|line| line.starts_with(&option)), "the man page: {option}");
+    }
+}
+
+#[test]
+fn the_program_has_the_crates_version() {
+    assert_eq!(env!("CARGO_PKG_VERSION"), jivaszte::VERSION);
 }

@@ -1,6 +1,6 @@
 //! What the lines of a text mean, in bytes.
 
-use jivaszte::text::compile;
+use jivaszte_cli::text::compile;
 
 /// The bytes of a text, in hex.
 fn hex(text: &str, rate: Option<u32>) -> String {

@@ -3,11 +3,11 @@
 mod common;
 
 use common::Random;
-use jivaszte::pitch::{cents_above, Pitch};
-use jivaszte::sounding;
-use jivaszte::take::{self, Refused};
-use jivaszte::text::compile;
-use jivaszte::tuning::ORDERS;
+use jivaszte_cli::pitch::{cents_above, Pitch};
+use jivaszte_cli::sounding;
+use jivaszte_cli::take::{self, Refused};
+use jivaszte_cli::text::compile;
+use jivaszte_cli::tuning::ORDERS;
 use std::f64::consts::TAU;
 
 const RATE: u32 = 44_100;

@@ -3,7 +3,7 @@
 mod common;
 
 use common::Random;
-use jivaszte::text::{compile, show, Compiled};
+use jivaszte_cli::text::{compile, show, Compiled};
 
 const HEADINGS: [&str; 8] =
     ["rate 48000", "order 2", "order 3", "order 1", "advance 10", "loss 0.99", "tempo 90", ""];

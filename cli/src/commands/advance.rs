@@ -5,7 +5,6 @@ use crate::click::{best_advance, figure, samples_to_best, MOST_ADVANCE};
 use crate::failure::{Failure, Outcome};
 use crate::files::print;
 use crate::number::{decibels, grouped};
-use crate::proved;
 use crate::take::FULL_SCALE;
 use crate::tuning::delays;
 use std::fmt::Write;
@@ -57,7 +56,7 @@ fn lengths(order: u32, delay: Option<u32>) -> String {
         "Effective length of the eliminator's response at a level, for {which}, in samples\n\n"
     );
     for threshold in [100_000, 10_000, 1_000, 100, 10, 1] {
-        let lengths = range.clone().map(|d| proved::effective_length(order, d, threshold));
+        let lengths = range.clone().map(|d| jivaszte::effective_length(order, d, threshold));
         let longest = lengths.flatten().max().unwrap_or_default();
         let level = decibels(threshold.into(), IMPULSE.into());
         let _ = writeln!(text, "{level:>5.0} dB {longest:>3}");

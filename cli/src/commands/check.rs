@@ -9,7 +9,7 @@ use crate::tune::Tune;
 
 pub fn run(arguments: &Arguments) -> Outcome {
     let file = arguments.file("check", "a score")?;
-    let tune = Tune::load(file, arguments.rate()?)?;
+    let tune = Tune::load(file, arguments.instead()?)?;
     let take = tune.run()?;
     if let Some(clipped) = take::clipped(&take) {
         eprintln!("{}", clipped.words(tune.rate));

@@ -10,7 +10,7 @@ pub fn run(arguments: &Arguments) -> Outcome {
     let file = arguments.file("compile", "a text")?;
     let output = arguments.output("compile", "TUNE.score")?;
     files::refuse_same(file, &output)?;
-    let tune = Tune::of_text(file, files::read(file)?, arguments.rate()?)?;
+    let tune = Tune::of_text(file, files::read(file)?, arguments.instead()?)?;
     files::write(&output, &tune.bytes)?;
     let name = files::output_name(&output);
     if tune.rate != DEFAULT_RATE {

@@ -4,7 +4,9 @@ mod advance;
 mod check;
 mod compile;
 mod note;
+mod page;
 mod play;
+mod plot;
 mod show;
 
 use crate::arguments::Arguments;
@@ -15,8 +17,10 @@ use std::ffi::OsString;
 /// A command: its name, the letters of its options, and what it does.
 type Command = (&'static str, &'static str, fn(&Arguments) -> Outcome);
 
-const COMMANDS: [Command; 6] = [
-    ("play", "or", play::run),
+const COMMANDS: [Command; 8] = [
+    ("play", "ora", play::run),
+    ("plot", "orac", plot::run),
+    ("page", "o", page::run),
     ("compile", "or", compile::run),
     ("show", "r", show::run),
     ("check", "r", check::run),

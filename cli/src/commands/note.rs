@@ -4,7 +4,7 @@ use crate::arguments::Arguments;
 use crate::failure::{Failure, Outcome};
 use crate::files::print;
 use crate::pitch::cents_above;
-use crate::refusal;
+use crate::refusal::message;
 use crate::sounding;
 use crate::text::{asked, FORMS};
 use crate::tuning::DEFAULT_RATE;
@@ -18,8 +18,8 @@ pub fn run(arguments: &Arguments) -> Outcome {
     let order = arguments.order()?.unwrap_or(1);
     let (tuning, hertz) = asked(&words.join(" "), order as u8, rate)
         .map_err(|fault| Failure::input(fault.message))?;
-    let sounds = sounding::hertz(order, rate, tuning)
-        .map_err(|number| Failure::input(refusal::message(number)))?;
+    let sounds =
+        sounding::hertz(order, rate, tuning).map_err(|refusal| Failure::input(message(refusal)))?;
     let cents = cents_above(sounds, hertz);
     let side = if cents < 0.0 { "flat" } else { "sharp" };
     print(&format!(

@@ -6,10 +6,10 @@ use crate::files;
 use crate::new_file::NewFile;
 use crate::number::{duration, grouped};
 use crate::progress::Progress;
-use crate::refusal;
+use crate::refusal::message;
 use crate::take;
 use crate::tune::Tune;
-use crate::wav;
+use jivaszte::{wav_file, MOST_SAMPLES};
 use std::path::{Path, PathBuf};
 
 /// Bytes that are written at a time, between two looks at the bar.
@@ -19,14 +19,14 @@ pub fn run(arguments: &Arguments) -> Outcome {
     let file = arguments.file("play", "a score")?;
     let output = arguments.output("play", "TAKE.wav")?;
     files::refuse_same(file, &output)?;
-    let tune = Tune::load(file, arguments.rate()?)?;
+    let tune = Tune::load(file, arguments.instead()?)?;
     let take = tune.run()?;
     let parts: Vec<&[i32]> = match take.is_empty() {
         true => vec![&[]],
-        false => take.chunks(wav::MOST_SAMPLES).collect(),
+        false => take.chunks(MOST_SAMPLES).collect(),
     };
     if parts.len() > 1 && files::is_standard(&output) {
-        let (length, most) = (grouped(take.len() as u64), grouped(wav::MOST_SAMPLES as u64));
+        let (length, most) = (grouped(take.len() as u64), grouped(MOST_SAMPLES as u64));
         let message =
             format!("a take of {length} samples is written in files of {most}: name one with -o");
         return Err(Failure::input(message));
@@ -54,8 +54,8 @@ fn write(names: &[PathBuf], parts: &[&[i32]], rate: u32) -> Outcome {
     let mut progress = Progress::new(parts.iter().map(|part| part.len()).sum());
     let mut written = Vec::new();
     for (name, samples) in names.iter().zip(parts) {
-        let bytes = wav::file(rate, samples).map_err(|number| {
-            Failure::input(format!("{}: {}", name.display(), refusal::message(number)))
+        let bytes = wav_file(rate, samples).map_err(|refusal| {
+            Failure::input(format!("{}: {}", name.display(), message(refusal)))
         })?;
         if files::is_standard(name) {
             return files::write(name, &bytes);

@@ -3,8 +3,9 @@
 use super::compiler::{Compiler, Origin};
 use super::header::HeaderSpots;
 use super::line::{Fault, Line, Spot};
-use crate::refusal;
+use super::values::Instead;
 use crate::score::Score;
+use jivaszte::Refusal;
 
 /// A score, its rate, and where in the text its parts come from.
 #[derive(Debug)]
@@ -17,13 +18,13 @@ pub struct Compiled {
 
 impl Compiled {
     /// The place in the text of what a run refuses at a record, or at the header.
-    pub fn spot(&self, refusal: u32, record: Option<usize>) -> Spot {
+    pub fn spot(&self, refusal: Refusal, record: Option<usize>) -> Spot {
         let Some(origin) = record.and_then(|record| self.origins.get(record)) else {
             return self.header.spot(refusal);
         };
         match refusal {
-            refusal::LENGTH | refusal::DELAY | refusal::CHANGE_WAITS => origin.change,
-            refusal::AMPLITUDE | refusal::COUNT => origin.pluck,
+            Refusal::Length | Refusal::Delay | Refusal::ChangeWaits => origin.change,
+            Refusal::Amplitude | Refusal::Count => origin.pluck,
             _ => origin.start,
         }
     }
@@ -31,7 +32,13 @@ impl Compiled {
 
 /// Compiles a text; `rate` takes the place of the text's. All lines that are wrong are told.
 pub fn compile(text: &str, rate: Option<u32>) -> Result<Compiled, Vec<Fault>> {
-    let mut compiler = Compiler::new(rate);
+    compile_with(text, Instead { rate, advance: None })
+}
+
+/// Compiles a text with another rate, another advance, or both: a slide's steps take effect when they
+/// did.
+pub fn compile_with(text: &str, instead: Instead) -> Result<Compiled, Vec<Fault>> {
+    let mut compiler = Compiler::new(instead);
     let text = text.strip_prefix('\u{FEFF}').unwrap_or(text);
     let lines = (1..).zip(text.lines());
     let mut faults: Vec<Fault> =

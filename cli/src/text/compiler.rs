@@ -5,7 +5,7 @@ use super::header::{Draft, HeaderSpots};
 use super::line::{Fault, Line, Spot, Word};
 use super::slide::Slide;
 use super::tunings;
-use super::values::Settings;
+use super::values::{Instead, Settings};
 use crate::decimal::Decimal;
 use crate::number::counted;
 use crate::score::{Change, Header, Record};
@@ -24,7 +24,7 @@ pub struct Origin {
 
 /// The lines read so far.
 pub struct Compiler {
-    rate: Option<u32>,
+    instead: Instead,
     draft: Draft,
     pub settings: Settings,
     pub header: Option<(Header, HeaderSpots)>,
@@ -38,11 +38,11 @@ pub struct Compiler {
 }
 
 impl Compiler {
-    pub fn new(rate: Option<u32>) -> Compiler {
+    pub fn new(instead: Instead) -> Compiler {
         let draft = Draft::default();
         Compiler {
-            rate,
-            settings: draft.settings(rate),
+            instead,
+            settings: draft.settings(instead.rate),
             draft,
             header: None,
             tuning: Tuning::default(),
@@ -95,7 +95,7 @@ impl Compiler {
         if word.text != "tune" {
             let done = self.draft.line(word, line);
             self.settings =
-                Settings { tempo: self.settings.tempo, ..self.draft.settings(self.rate) };
+                Settings { tempo: self.settings.tempo, ..self.draft.settings(self.instead.rate) };
             return done;
         }
         let spot = line.spot();
@@ -105,7 +105,9 @@ impl Compiler {
     }
 
     fn open(&mut self, tuning: Tuning, spot: Spot) {
-        self.header = Some(self.draft.header(tuning, spot));
+        let (header, spots) = self.draft.header(tuning, spot);
+        let advance = self.instead.advance.unwrap_or(header.advance);
+        self.header = Some((Header { advance, ..header }, spots));
         self.tuning = tuning;
     }
 

@@ -3,9 +3,9 @@
 use super::line::{Fault, Line, Spot, Word};
 use super::values::{self, Settings};
 use crate::click::best_advance;
-use crate::refusal;
 use crate::score::Header;
 use crate::tuning::{Tuning, DEFAULT_RATE, ORDERS, RATES};
+use jivaszte::Refusal;
 use std::ops::RangeInclusive;
 
 const DEFAULT_ORDER: u8 = 1;
@@ -31,10 +31,10 @@ pub struct HeaderSpots {
 
 impl HeaderSpots {
     /// The place to which a refusal of the opening points.
-    pub fn spot(&self, refusal: u32) -> Spot {
+    pub fn spot(&self, refusal: Refusal) -> Spot {
         match refusal {
-            refusal::ORDER => self.order,
-            refusal::ADVANCE => self.advance,
+            Refusal::Order => self.order,
+            Refusal::Advance => self.advance,
             _ => self.tune,
         }
     }
@@ -99,6 +99,6 @@ fn rate(line: &mut Line) -> Result<u32, Fault> {
     let rate = values::whole(line, "a rate", &limits(RATES), u32::MAX.into())? as u32;
     match RATES.contains(&rate) {
         true => Ok(rate),
-        false => Err(Fault::new(spot, refusal::words(refusal::RATE))),
+        false => Err(Fault::new(spot, Refusal::Rate.words())),
     }
 }

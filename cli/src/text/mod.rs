@@ -10,7 +10,8 @@ mod slide;
 mod tunings;
 mod values;
 
-pub use compile::{compile, Compiled};
+pub use compile::{compile, compile_with, Compiled};
 pub use line::{Fault, Spot};
 pub use show::show;
 pub use tunings::{asked, FORMS};
+pub use values::Instead;

@@ -4,8 +4,9 @@ use super::line::{Fault, Line, Word};
 use super::values::{field, Settings};
 use crate::decimal::Decimal;
 use crate::pitch::Pitch;
-use crate::refusal;
+use crate::refusal::message;
 use crate::tuning::Tuning;
+use jivaszte::Refusal;
 
 /// The forms of a tuning, for messages.
 pub const FORMS: &str = "A4, A4+15c, 441Hz, or L 99 d 2979";
@@ -34,15 +35,15 @@ pub fn parts(line: &mut Line, settings: &Settings) -> Result<(Option<u16>, Optio
     }
     let (word, pitch) = pitch(line)?;
     let tuning = pitch.tuning(settings.order.into(), settings.rate);
-    let Tuning { length, delay } = tuning.map_err(|number| refused(number, &word, settings))?;
+    let Tuning { length, delay } = tuning.map_err(|refusal| refused(refusal, &word, settings))?;
     Ok((Some(length), Some(delay)))
 }
 
 /// A pitch that the voice does not have, or an order that there is not.
-fn refused(number: u32, word: &Word, settings: &Settings) -> Fault {
-    let (note, rate, words) = (word.text, settings.rate, refusal::message(number));
-    match (number, settings.order_spot) {
-        (refusal::ORDER, Some(spot)) => Fault::new(spot, words),
+fn refused(refusal: Refusal, word: &Word, settings: &Settings) -> Fault {
+    let (note, rate, words) = (word.text, settings.rate, message(refusal));
+    match (refusal, settings.order_spot) {
+        (Refusal::Order, Some(spot)) => Fault::new(spot, words),
         _ => word.fault(format!("{note} is out of reach at {rate} samples a second: {words}")),
     }
 }

@@ -19,6 +19,13 @@ pub struct Settings {
     pub tempo: Option<Decimal>,
 }
 
+/// What takes the place of a score's own rate and advance.
+#[derive(Clone, Copy, Debug, Default)]
+pub struct Instead {
+    pub rate: Option<u32>,
+    pub advance: Option<u8>,
+}
+
 /// A whole number up to `most`; `limits` says in words which ones a voice takes.
 pub fn whole(line: &mut Line, what: &str, limits: &str, most: u64) -> Result<u64, Fault> {
     let word = line.next(what)?;

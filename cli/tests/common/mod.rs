@@ -1,4 +1,5 @@
 //! Numbers from a seed, for random scores and texts.
+#![allow(dead_code)] // a test takes what it needs of it
 
 /// SplitMix64.
 pub struct Random(u64);

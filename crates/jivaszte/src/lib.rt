@@ -186,3 +186,11 @@ pub extern "C" fn jivaszte_wav_read(
     *count = r.count;
     r.refusal
 }
+
+// The version, which header and program have too: 0.1.0 is 100, and 1.2.3 would be 10,203.
+#[no_mangle]
+pub extern "C" fn jivaszte_version() -> u32
+    ensures { λ r. ⌜ r ≡ 100 ⌝ }
+{
+    100
+}

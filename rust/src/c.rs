@@ -1,0 +1,70 @@
+//! The routines of include/jivaszte.h as they are linked. Every number and every byte is safe; of the
+//! pointers they ask what Rust's references give: valid for their lengths, and no overlap.
+
+#[link(name = "jivaszte", kind = "static")]
+extern "C" {
+    pub fn jivaszte_version() -> u32;
+    pub fn jivaszte_coefficients(
+        order: u32,
+        delay: u32,
+        a1: &mut i32,
+        a2: &mut i32,
+        a3: &mut i32,
+    ) -> u32;
+    pub fn jivaszte_effective_length(
+        order: u32,
+        delay: u32,
+        threshold: u32,
+        length: &mut u32,
+    ) -> u32;
+    pub fn jivaszte_note(
+        order: u32,
+        rate: u32,
+        note: u32,
+        length: &mut u32,
+        delay: &mut u32,
+    ) -> u32;
+    pub fn jivaszte_draw(noise: &mut u32) -> i32;
+    pub fn jivaszte_record(score: *const u8, length: usize, fields: &mut [u32; 9]) -> usize;
+    pub fn jivaszte_perform(
+        order: u32,
+        length: u32,
+        delay: u32,
+        loss: u32,
+        advance: u32,
+        words: *const u32,
+        count: usize,
+        input: *const i32,
+        samples: usize,
+        output: *mut i32,
+        room: usize,
+        numbers: *mut u32,
+        places: usize,
+        opening: &mut u32,
+        written: &mut usize,
+    ) -> u32;
+    pub fn jivaszte_run(
+        score: *const u8,
+        length: usize,
+        output: *mut i32,
+        room: usize,
+        place: &mut usize,
+        written: &mut usize,
+    ) -> u32;
+    pub fn jivaszte_wav_write(
+        rate: u32,
+        samples: *const i32,
+        count: usize,
+        file: *mut u8,
+        room: usize,
+        bytes: &mut usize,
+    ) -> u32;
+    pub fn jivaszte_wav_read(
+        file: *const u8,
+        length: usize,
+        samples: *mut i32,
+        room: usize,
+        rate: &mut u32,
+        count: &mut usize,
+    ) -> u32;
+}

@@ -1,0 +1,34 @@
+//! A plucked string with a tunable allpass loop, proved: the routines of jivaszte.h as safe functions.
+//!
+//! What the library refuses comes back as a [`Refusal`], which has the number and the words. Nothing is
+//! kept between two calls, and none allocates but [`wav_file`] and [`Call::list`].
+//!
+//! ```
+//! use jivaszte::{note, Refusal};
+//! assert_eq!(note(1, 44_100, 69), Ok((99, 2_979)));
+//! assert_eq!(note(1, 44_100, 128), Err(Refusal::Note));
+//! assert_eq!(Refusal::Note.to_string(), "the note is above 127");
+//! ```
+
+mod c;
+mod filter;
+mod list;
+mod refusal;
+mod score;
+mod wav;
+
+pub use filter::{coefficients, draw, effective_length, note, ORDERS};
+pub use list::{perform, Call, Opening, Performed};
+pub use refusal::Refusal;
+pub use score::{record, run, Played, Record, Stopped};
+pub use wav::{wav_file, wav_read, wav_size, wav_write, MOST_SAMPLES};
+
+/// The version of this crate; header and program have the same.
+pub const VERSION: &str = env!("CARGO_PKG_VERSION");
+
+/// The version of the library that is linked: 10,000 times its first number, 100 times its second, and
+/// its third.
+pub fn version() -> u32 {
+    // SAFETY: it takes nothing.
+    unsafe { c::jivaszte_version() }
+}

@@ -1,0 +1,83 @@
+//! Scores in bytes: the run, and the record reader.
+
+use crate::c;
+use crate::Refusal;
+use std::error::Error;
+use std::fmt;
+
+/// A run to the end of a score.
+#[derive(Clone, Copy, Debug, PartialEq, Eq)]
+pub struct Played {
+    pub records: usize,
+    /// Samples of the output that were filled.
+    pub written: usize,
+}
+
+/// A run that was refused.
+#[derive(Clone, Copy, Debug, PartialEq, Eq)]
+pub struct Stopped {
+    pub refusal: Refusal,
+    /// The index of the record that was refused, and 0 for the header.
+    pub place: usize,
+    /// Samples of the output that were filled before.
+    pub written: usize,
+}
+
+impl fmt::Display for Stopped {
+    fn fmt(&self, f: &mut fmt::Formatter) -> fmt::Result {
+        write!(f, "record {}: {}", self.place, self.refusal)
+    }
+}
+
+impl Error for Stopped {}
+
+/// Plays a score on a voice of its own. Refuses by `CutShort`, those of the opening, and at a record
+/// by `CutShort`, `BitMap`, `OutputFull`, and those of a change and a pluck.
+pub fn run(score: &[u8], output: &mut [i32]) -> Result<Played, Stopped> {
+    let (mut place, mut written) = (0, 0);
+    let (room, to) = (output.len(), output.as_mut_ptr());
+    // SAFETY: each pointer is valid for its length, and none overlaps another.
+    let number =
+        unsafe { c::jivaszte_run(score.as_ptr(), score.len(), to, room, &mut place, &mut written) };
+    match Refusal::of(number) {
+        Ok(()) => Ok(Played { records: place, written }),
+        Err(refusal) => Err(Stopped { refusal, place, written }),
+    }
+}
+
+/// A record's fields, where it has them.
+#[derive(Clone, Copy, Debug, Default, PartialEq, Eq)]
+pub struct Record {
+    pub wait: Option<u16>,
+    pub length: Option<u16>,
+    pub delay: Option<u16>,
+    pub loss: Option<u16>,
+    pub amplitude: Option<u16>,
+    pub count: Option<u16>,
+    pub seed: Option<u16>,
+    /// Whether its change is instant.
+    pub instant: bool,
+}
+
+/// Reads the record that a score without its header, or what is left of one, starts with; gives it and
+/// the bytes after it. Refuses by `CutShort`, `BitMap`.
+pub fn record(score: &[u8]) -> Result<(Record, &[u8]), Refusal> {
+    let mut numbers = [0; 9];
+    // SAFETY: as for `run`.
+    let took = unsafe { c::jivaszte_record(score.as_ptr(), score.len(), &mut numbers) };
+    let [refusal, map, fields @ ..] = numbers;
+    Refusal::of(refusal)?;
+    let stands = |bit: u32| map >> bit & 1 == 1;
+    let field = |bit: u32| stands(bit).then(|| fields[bit as usize] as u16);
+    let record = Record {
+        wait: field(0),
+        length: field(1),
+        delay: field(2),
+        loss: field(3),
+        amplitude: field(4),
+        count: field(5),
+        seed: field(6),
+        instant: stands(7),
+    };
+    Ok((record, &score[took..]))
+}
