@@ -1,6 +1,6 @@
-/* The samples of the voice in plain C, in the fastest form found: arithmetic shifts for the floors, the state in
-   locals, a loop for each order and for each part that can be absent, and stretches of samples in which neither the
-   ring ends nor a pluck nor a waiting change, so that the loops have no test but their count and the clips. */
+/* The samples of the voice in plain C, in the fastest form found: divisions by constants, the state in locals, a
+   loop for each order and for each part that can be absent, and stretches of samples in which neither the ring ends nor
+   a pluck nor a waiting change, so that the loops have no test but their count and the clips. */
 #include "plain.h"
 
 /* One test that seldom holds, which was faster than two conditional moves. */
@@ -31,27 +31,27 @@ stretch(Voice *v, const int32_t *restrict in, int32_t *restrict out, uint32_t n,
     for (uint32_t i = 0; i < n; i++) {
         int64_t w, y, s;
         if (order == 1) {
-            w = from[i] - ((a1 * v1 + 32768) >> 16);
-            y = clip(v1 + ((a1 * w + 32768) >> 16));
+            w = from[i] - a1 * v1 / 65536;
+            y = clip(v1 + a1 * w / 65536);
         } else if (order == 2) {
-            w = from[i] - ((a1 * v1 + a2 * v2 + 32768) >> 16);
-            y = clip(v2 + ((a2 * w + a1 * v1 + 32768) >> 16));
+            w = from[i] - (a1 * v1 + a2 * v2) / 65536;
+            y = clip(v2 + (a2 * w + a1 * v1) / 65536);
             v2 = v1;
         } else {
-            w = from[i] - ((a1 * v1 + (a2 * v2 + a3 * v3 + 32768)) >> 16);
-            y = clip(v3 + ((a3 * w + (a2 * v1 + a1 * v2 + 32768)) >> 16));
+            w = from[i] - (a1 * v1 + (a2 * v2 + a3 * v3)) / 65536;
+            y = clip(v3 + (a3 * w + (a2 * v1 + a1 * v2)) / 65536);
             v3 = v2;
             v2 = v1;
         }
         v1 = w;
         if (waits) {
             int64_t more = (order > 1 ? b2 * e2 : 0) + (order > 2 ? b3 * e3 : 0);
-            int64_t e = ahead[i] - ((b1 * e1 + more + 32768) >> 16);
+            int64_t e = ahead[i] - (b1 * e1 + more) / 65536;
             e3 = e2;
             e2 = e1;
             e1 = e;
         }
-        s = (loss * (y + last) + 65536) >> 17;
+        s = loss * (y + last) / 131072;
         if (feeds)
             s += in[i];
         if (plucks) {

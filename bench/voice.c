@@ -78,8 +78,8 @@ uint32_t change(Voice *v, uint32_t length, uint32_t delay, int kind)
     Filter f = resting(v->order, length, delay);
     if (kind == INSTANT) {
         for (uint32_t k = v->advance; k > 0; k--) {
-            int64_t u = f.a1 * f.v1 + (f.a2 * f.v2 + f.a3 * f.v3 + 32768);
-            int64_t w = v->line[place(v->at, length + k)] - (u >> 16);
+            int64_t u = f.a1 * f.v1 + (f.a2 * f.v2 + f.a3 * f.v3);
+            int64_t w = v->line[place(v->at, length + k)] - u / 65536;
             f.v3 = v->order > 2 ? f.v2 : 0;
             f.v2 = v->order > 1 ? f.v1 : 0;
             f.v1 = w;

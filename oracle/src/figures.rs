@@ -67,11 +67,12 @@ fn coefficient_figures() -> Vec<Figure> {
     figures
 }
 
-/// "Order 1, d 6,144, inputs 1,000, 0, 0, 0: −200, 960, 192, 38."
+/// "Order 1, d 6,144, inputs 1,000, 0, 0, 0": "the allpass row in document 01 becomes −199, 961, 192,
+/// 38" (document 02, L7).
 fn filter_figure() -> Figure {
     let mut filter = Allpass::at_rest(1, 6_144);
     let computed = [1_000, 0, 0, 0].map(|f| filter.filter(f));
-    figure("order 1, d 6144, inputs 1000, 0, 0, 0", &[-200, 960, 192, 38], &computed)
+    figure("order 1, d 6144, inputs 1000, 0, 0, 0", &[-199, 961, 192, 38], &computed)
 }
 
 /// "L 3, d 4,096, G 32,768, input 1,000 then zeros: 0, 0, 0, 0, 1000, 0, 0, 0, 250, 250." The

@@ -22,6 +22,7 @@ pub mod record;
 pub mod refusal;
 pub mod rows;
 pub mod score;
+pub mod silence;
 pub mod thiran;
 pub mod voice;
 pub mod wav;

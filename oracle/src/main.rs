@@ -1,11 +1,12 @@
-//! The commands: player, console, figures, rows, files, scores, calls and compare.
+//! The commands: player, console, figures, rows, scores, calls, silence and compare.
 
-use oracle::cases::{write_cases, Report};
+use oracle::cases::{write_cases, Report as Reached};
 use oracle::compare::compare;
 use oracle::console::answers;
 use oracle::figures::figures;
 use oracle::player::{play, SCORE_BYTES};
 use oracle::rows::{module, names};
+use oracle::silence::{Report, LIMIT};
 use std::io::{self, Read, Write};
 use std::path::Path;
 use std::process::ExitCode;
@@ -16,6 +17,7 @@ oracle figures
 oracle rows [NAME]
 oracle scores SEED COUNT DIR
 oracle calls SEED COUNT DIR
+oracle silence SEED COUNT
 oracle compare PROGRAM DIR SAVED";
 
 /// Standard input up to a number of bytes.
@@ -65,7 +67,7 @@ fn print_rows(name: &str) -> Result<(), String> {
 }
 
 /// What the cases reached, one number per line.
-fn print_report(report: &Report) -> Result<(), String> {
+fn print_report(report: &Reached) -> Result<(), String> {
     for (number, count) in report.refusals.iter().enumerate() {
         print(&format!("answer {number}: {count}\n"))?;
     }
@@ -76,15 +78,26 @@ fn print_report(report: &Report) -> Result<(), String> {
     print(&format!("equality claimed at {}, difference at {}\n", tally.equal, tally.differing))
 }
 
+/// A whole number of the command line.
+fn whole(word: &str) -> Result<u64, String> {
+    word.parse().map_err(|_| format!("not a number: {word}"))
+}
+
 /// `scores` and `calls`: writes the cases.
 fn make_cases(kind: &str, seed: &str, count: &str, dir: &str) -> Result<(), String> {
-    let whole = |word: &str| word.parse::<u64>().map_err(|_| format!("not a number: {word}"));
     let (seed, count, dir) = (whole(seed)?, whole(count)?, Path::new(dir));
     let report = match kind {
         "scores" => write_cases(count, dir, |report, index| report.score(seed, index))?,
         _ => write_cases(count, dir, |report, index| report.text(seed, index))?,
     };
     print_report(&report)
+}
+
+/// `silence`: runs random voices without input, and prints how many fall silent, and after how long.
+fn fall_silent(seed: &str, count: &str) -> Result<(), String> {
+    let (seed, count) = (whole(seed)?, whole(count)?);
+    print(&format!("at most {LIMIT} samples each\n"))?;
+    Report::new(seed, count, LIMIT).lines().iter().try_for_each(|line| print(&format!("{line}\n")))
 }
 
 /// `compare`: holds a program to the cases of a folder; fails where one differs, and names three.
@@ -110,6 +123,7 @@ fn main() -> ExitCode {
         ["rows"] => print(&names()),
         ["rows", name] => print_rows(name),
         [kind @ ("scores" | "calls"), seed, count, dir] => make_cases(kind, seed, count, dir),
+        ["silence", seed, count] => fall_silent(seed, count),
         ["compare", program, dir, saved] => hold(program, dir, saved),
         _ => {
             eprintln!("{USAGE}");

@@ -1,4 +1,4 @@
-//! Whole numbers of document 01: floor division, rounding, R and clip, all exact on i128.
+//! Whole numbers of document 01: floor division, rounding and clip, and document 02's cut, all exact on i128.
 
 /// "M = 8,388,607."
 pub const M: i128 = 8_388_607;
@@ -14,9 +14,15 @@ pub fn nearest(u: i128, v: i128) -> i128 {
     floor_div(2 * u + v, 2 * v)
 }
 
-/// "R(u) is the whole part, downward, of (u + 32,768)/65,536."
+/// "cut toward zero instead of rounding" (document 02, L7): the whole part of `|u| / v` with the sign of
+/// `u`; `v` is above 0.
+pub fn cut(u: i128, v: i128) -> i128 {
+    floor_div(u.abs(), v) * u.signum()
+}
+
+/// "R and the loop's division shall cut toward zero": R(u), of u/65,536.
 pub fn r(u: i128) -> i128 {
-    floor_div(u + 32_768, 65_536)
+    cut(u, 65_536)
 }
 
 /// "A sample is a whole number from −M to M".

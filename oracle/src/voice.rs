@@ -1,7 +1,7 @@
 //! The voice: Open, loss and block, over the whole history since opening.
 
 use crate::allpass::Allpass;
-use crate::number::{clip, floor_div, is_sample, to_call};
+use crate::number::{clip, cut, is_sample, to_call};
 use crate::pluck::Pluck;
 use crate::refusal::{require, Answer, Refusal};
 use crate::thiran::{test_delay, test_order};
@@ -108,11 +108,12 @@ impl Voice {
         if let Some(change) = &mut self.waiting {
             change.take(&self.s, n);
         }
-        // "3. s(n) = clip(p(n) + floor((G·(y(n) + y(n − 1)) + 65,536)/131,072)), where y(−1) = 0
-        // and p(n) is the caller's input plus the noise sample, if a pluck is sounding."
+        // "3. s(n) = clip(p(n) + G·(y(n) + y(n − 1))/131,072), where y(−1) = 0 and p(n) is the
+        // caller's input plus the noise sample, if a pluck is sounding"; "the loop's division shall
+        // cut toward zero" (document 02, L7).
         let p = input + self.pluck.noise_sample();
         let sum = y + self.last_output();
-        let s = clip(p + floor_div(i128::from(self.loss) * sum + 65_536, 131_072));
+        let s = clip(p + cut(i128::from(self.loss) * sum, 131_072));
         // "4. s(n) goes into the line. If the eliminator has now taken Na samples, L', d' and its
         // state replace the voice's, from step n + 1 on." An asked change waits for its commit.
         self.s.push(s);

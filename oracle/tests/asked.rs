@@ -8,7 +8,7 @@ fn answered(lines: &str) -> Vec<String> {
     printed.lines().filter(|line| !line.starts_with("block")).map(str::to_string).collect()
 }
 
-/// The eliminator, A1 −13,107, takes 0, 0, 1000, 0, 0, 0: its state is 0, 0, 1000, 200, 40, 8.
+/// The eliminator, A1 −13,107, takes 0, 0, 1000, 0, 0, 0: its state is 0, 0, 1000, 199, 39, 7.
 #[test]
 fn an_ask_waits_past_the_advance() {
     let lines = "open 1 3 4096 65535 2; ask 2 6144; commit; block 1 1000; commit; state; \
@@ -19,9 +19,9 @@ fn an_ask_waits_past_the_advance() {
         "commit 20",
         "commit 20",
         "state 1 3 4096 65535 2 0 0 0 0 2 2 6144 1 0 0 0 0 0 0",
-        "state 1 3 4096 65535 2 0 0 0 0 2 2 6144 2 8 0 0 0 0 0",
+        "state 1 3 4096 65535 2 0 0 0 0 2 2 6144 2 7 0 0 0 0 0",
         "commit 0",
-        "state 1 2 6144 65535 2 0 8 0 0 0 0 0 0 0 0 0 0 0 0",
+        "state 1 2 6144 65535 2 0 7 0 0 0 0 0 0 0 0 0 0 0 0",
         "commit 21",
         "withdraw 21",
     ];

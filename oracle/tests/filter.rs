@@ -45,6 +45,8 @@ fn sum_of_magnitudes() {
         for d in delay_range(order) {
             let sum: i128 = exact_coefficients(order, d).iter().map(|a| a.abs()).sum();
             assert!(sum <= 32_768, "order {order}, d {d}");
+            // so that 3 times it is below 65,536: docs/SILENCE.md
+            assert!(order > 1 || sum <= 21_831, "d {d}");
         }
     }
 }

@@ -7,7 +7,7 @@ mod rule;
 use crate::click::figure;
 use crate::timeline::{Span, Timeline};
 use crate::tuning::Tuning;
-use rule::{clip, draw, kept, Filter};
+use rule::{clip, cut_in_loop, draw, Filter};
 use std::collections::HashMap;
 
 /// s: what was written to the line at each step, from the samples, the losses and the plucks.
@@ -26,7 +26,7 @@ fn line(samples: &[i32], timeline: &Timeline) -> Vec<i64> {
         }
         let input = if step < until { amplitude * draw(&mut noise) } else { 0 };
         let y = i64::from(*sample);
-        line.push(clip(input + kept(loss * (y + last))));
+        line.push(clip(input + cut_in_loop(loss * (y + last))));
         last = y;
     }
     line

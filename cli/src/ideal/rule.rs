@@ -1,16 +1,16 @@
-//! Document 01's rule, once more and apart from the proved library: rounding, noise, coefficients and the
-//! allpass filter, over the order N.
+//! The rule of documents 01 and 02, once more and apart from the proved library: division, noise,
+//! coefficients and the allpass filter, over the order N.
 
 use crate::take::FULL_SCALE;
 
-/// "R(u) is the whole part, downward, of (u + 32,768)/65,536."
-fn rounded(u: i64) -> i64 {
-    (u + 32_768).div_euclid(65_536)
+/// "R and the loop's division shall cut toward zero instead of rounding", as `/` does: R(u) is u/65,536.
+fn cut(u: i64) -> i64 {
+    u / 65_536
 }
 
-/// What a turn of the loop keeps: "floor((G·(y(n) + y(n − 1)) + 65,536)/131,072)".
-pub fn kept(u: i64) -> i64 {
-    (u + 65_536).div_euclid(131_072)
+/// What a turn of the loop keeps, cut toward zero: u/131,072, with u for "G·(y(n) + y(n − 1))".
+pub fn cut_in_loop(u: i64) -> i64 {
+    u / 131_072
 }
 
 pub fn clip(u: i64) -> i64 {
@@ -51,10 +51,10 @@ impl Filter {
         Filter { a, v: vec![0; order as usize] }
     }
 
-    /// "w = f − R(A1·v1 + A2·v2)"; then the state moves on. Gives the number that leaves it.
+    /// "w = f − R(A1·v1 + A2·v2)", and so in every order; then the state moves on. Gives the number that leaves it.
     pub fn take(&mut self, f: i64) -> i64 {
         let sum: i64 = self.a.iter().zip(&self.v).map(|(a, v)| a * v).sum();
-        let w = f - rounded(sum);
+        let w = f - cut(sum);
         self.v.rotate_right(1);
         std::mem::replace(&mut self.v[0], w)
     }
@@ -63,7 +63,7 @@ impl Filter {
     pub fn output(&mut self, f: i64) -> i64 {
         let last = self.take(f);
         let sum: i64 = self.a.iter().rev().zip(&self.v).map(|(a, v)| a * v).sum();
-        clip(last + rounded(sum))
+        clip(last + cut(sum))
     }
 }
 
@@ -71,7 +71,7 @@ impl Filter {
 mod tests {
     use super::*;
 
-    /// The starred figures of document 01.
+    /// The starred figures of document 01, and order 3 at its ends and in its middle.
     #[test]
     fn coefficients_are_the_papers() {
         for (delay, a1) in [(2_049, 21_831), (4_096, 0), (6_144, -13_107), (2_979, 10_347)] {
@@ -80,6 +80,23 @@ mod tests {
         for (delay, a) in [(6_145, [26_199, -1_872]), (10_240, [-18_725, 3_121]), (8_192, [0, 0])] {
             assert_eq!([1, 2].map(|k| coefficient(2, delay, k)), a);
         }
+        let third = [
+            (10_241, [28_071, -3_120, 284]),
+            (12_288, [0, 0, 0]),
+            (14_336, [-21_845, 5_958, -764]),
+        ];
+        for (delay, a) in third {
+            assert_eq!([1, 2, 3].map(|k| coefficient(3, delay, k)), a);
+        }
+    }
+
+    /// "the allpass row in document 01 becomes −199, 961, 192, 38"; and each sign, one below the divisor.
+    #[test]
+    fn divisions_cut_toward_zero() {
+        let mut filter = Filter::new(1, 6_144);
+        assert_eq!([1_000, 0, 0, 0].map(|x| filter.output(x)), [-199, 961, 192, 38]);
+        assert_eq!([65_535, 65_536, -65_535, -65_536].map(cut), [0, 1, 0, -1]);
+        assert_eq!([131_071, 131_072, -131_071, -131_072].map(cut_in_loop), [0, 1, 0, -1]);
     }
 
     /// The proved library has the same coefficients, at every delay of every order.

@@ -7,9 +7,11 @@ use native.Mathlib.Omega.{arith}
 use native.Mathlib.Nat.{mul-le-mul-left, mul-le-mul-right}
 use lib.IntN.{ℤ, pos, natAbs, _+ℤ_, _-ℤ_, _*ℤ_, +ℤ-idr, *ℤ-zero}
 use lib.ListN.{length}
-use Rattle.integer.specs.Rounding.{floor, R, M, clip}
+use Rattle.integer.specs.Rounding.{M, clip}
+use Rattle.integer.specs.Cut.{cut, R}
 use Rattle.integer.proofs.Ring.{abs-*, abs-+, abs--, add-near, sub-near, mul-near}
-use Rattle.integer.proofs.Rounding.{R-abs, R-near, clip-abs, clip-near}
+use Rattle.integer.proofs.Rounding.{clip-abs, clip-near}
+use Rattle.integer.proofs.Cut.{R-abs, R-near}
 use Rattle.thiran.specs.Coefficients.{norm}
 use Rattle.allpass.specs.Allpass.{dot, rest, shift, final, inner, next, out}
 use Rattle.allpass.specs.Bounds.{Within, none, more, Close, half}
@@ -71,7 +73,7 @@ final-rest zero = refl
 final-rest (suc N) = final-rest N
 
 pub R-zero : R (pos 0) ≡ pos 0
-unfolding R floor
+unfolding R cut
 R-zero = refl
 
 -- its w is what it takes, and with 0 it stays at rest
@@ -100,10 +102,10 @@ final-close : {v u : List ℤ} (x y : ℤ) {D : ℕ} → natAbs (x -ℤ y) ≤ D
 final-close x y k none = k
 final-close x y k (more {x = x′} {y = y′} p h) = final-close x′ y′ p h
 
--- ---- a sum of products, rounded
+-- ---- R of a sum of products
 module _ (A : List ℤ) (n : norm A ≤ 32768) where
   pub R-within : {v : List ℤ} → Within (2 * M) v → natAbs (R (dot A v)) ≤ M
-  R-within {v} h = R-abs (dot A v) M (omega (arith, dot-within A h, mul-le-mul-right (2 * M) n))
+  R-within {v} h = omega (arith, R-abs (dot A v), dot-within A h, mul-le-mul-right (2 * M) n)
 
   pub R-close : {v u : List ℤ} {D : ℕ} → Close D v u → natAbs (R (dot A v) -ℤ R (dot A u)) ≤ half D
   R-close {v} {u} {D} h = R-near (dot A v) (dot A u) D (omega (arith, dot-close A h, mul-le-mul-right D n))

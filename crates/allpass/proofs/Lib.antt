@@ -1,4 +1,5 @@
 pub mod Bounds
+pub mod Still
 pub mod Contraction
 pub mod Orders
 pub mod Stored

@@ -10,7 +10,7 @@ use borrow.Author.Tests.{eq-eqb, ne-eqb, ltb-true, ltb-false}
 use lib.Dec.{ltb, eqb}
 use lib.IntN.{ℤ, pos, natAbs, _+ℤ_, _-ℤ_, _*ℤ_, +ℤ-idr, +ℤ-assoc, zero-*ℤ}
 use lib.ListN.{length, take, getD, replicate}
-use Rattle.integer.specs.Rounding.{R}
+use Rattle.integer.specs.Cut.{R}
 use Rattle.refusal.specs.Limits.{refusal}
 use Rattle.refusal.specs.Orders.{orders}
 use Rattle.refusal.specs.Ranges.{InRange, OrderDelay}

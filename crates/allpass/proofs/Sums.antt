@@ -47,7 +47,7 @@ module _ (a x : ℤ) (A v : List ℤ) (n : norm (a ∷ A) ≤ 32768) (h : Within
   product : back (times a x) ≡ a *ℤ x
   product = rw factors (toZ-ofZ product-fits)
 
-  pub small : natAbs (dot (a ∷ A) (x ∷ v)) ≤ 2 ^ 39
+  small : natAbs (dot (a ∷ A) (x ∷ v)) ≤ 2 ^ 39
   small = omega (arith, dot-within (a ∷ A) h, mul-le-mul-right (2 * M) n)
 
   all-fits : SFits w64 (dot (a ∷ A) (x ∷ v))

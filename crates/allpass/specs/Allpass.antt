@@ -4,7 +4,8 @@ use mathlib.Core.List.{List, [], _∷_, reverse}
 use Prim.Native.Nat.{ℕ}
 use lib.IntN.{ℤ, pos, _+ℤ_, _-ℤ_, _*ℤ_}
 use lib.ListN.{replicate}
-use Rattle.integer.specs.Rounding.{R, clip}
+use Rattle.integer.specs.Rounding.{clip}
+use Rattle.integer.specs.Cut.{R}
 
 -- A1·v1 + .. + AN·vN
 abbrev pub dot : List ℤ → List ℤ → ℤ

@@ -5,7 +5,8 @@ use mathlib.Core.List.{List, [], _∷_}
 use Prim.Native.Nat.{ℕ, _+_, _*_, _-_, _/_, _^_, _≤_}
 use lib.IntN.{ℤ, natAbs, _+ℤ_, _-ℤ_, _*ℤ_}
 use lib.ListN.{length}
-use Rattle.integer.specs.Rounding.{R, clip, M}
+use Rattle.integer.specs.Rounding.{clip, M}
+use Rattle.integer.specs.Cut.{R}
 use Rattle.allpass.specs.Allpass.{inner, next, out, run}
 
 -- each number of v is of magnitude at most B

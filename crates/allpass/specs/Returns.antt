@@ -6,7 +6,7 @@ use mathlib.Core.List.{List, [], _∷_}
 use Prim.Native.Nat.{ℕ, zero, suc, _-_, _≤_, _<_}
 use lib.IntN.{ℤ, pos, natAbs, _+ℤ_, _-ℤ_, _*ℤ_}
 use lib.ListN.{length, getD}
-use Rattle.integer.specs.Rounding.{R}
+use Rattle.integer.specs.Cut.{R}
 use Rattle.refusal.specs.Ranges.{InRange, OrderDelay}
 use Rattle.thiran.specs.Answers.{design}
 use Rattle.allpass.specs.Length.{effectiveLength}

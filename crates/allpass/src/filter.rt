@@ -4,7 +4,8 @@ ghost use mathlib.Core.Path.{_≡_};
 ghost use mathlib.Core.List.{reverse};
 ghost use Prim.Native.Nat.{_*_, _≤_};
 ghost use lib.IntN.{pos, _+ℤ_};
-ghost use Rattle.integer.specs.Rounding.{M, R, clip as Clip};
+ghost use Rattle.integer.specs.Rounding.{M, clip as Clip};
+ghost use Rattle.integer.specs.Cut.{R};
 ghost use Rattle.refusal.specs.Orders.{orders};
 ghost use Rattle.thiran.specs.Coefficients.{norm};
 ghost use Rattle.thiran.specs.Answers.{taps};
@@ -14,7 +15,7 @@ ghost use Rattle.allpass.specs.Stored.{stored, held, Fed};
 use crate::State;
 use integer::Value;
 use integer::clip;
-use integer::round_q16;
+use integer::cut_q16;
 use thiran::formula::Coefficients;
 
 // y is the output, and state the next state.
@@ -85,21 +86,21 @@ fn shifted(order: u32, v: State, w: Value) -> State
     }
 }
 
-// A1·v1 + .. + AN·vN, rounded; the newest number of the state is added last.
+// R(A1·v1 + .. + AN·vN); the newest number of the state is added last.
 fn weighed(order: u32, c: Coefficients, v: State) -> Value
     requires { ⌜ (1 ≤ order) × (order ≤ orders) × (norm (taps order c) ≤ 32768)
         × Within (2 * M) (held order v) ⌝ }
     ensures { λ r. ⌜ r .n ≡ R (dot (taps order c) (held order v)) ⌝ }
 {
     if order == 1 {
-        return round_q16(Value { n: c.a1 * v.v1 });
+        return cut_q16(Value { n: c.a1 * v.v1 });
     }
     if order == 2 {
-        return round_q16(Value {
+        return cut_q16(Value {
             n: c.a1 * v.v1 + c.a2 * v.v2,
         });
     }
-    round_q16(Value {
+    cut_q16(Value {
         n: c.a1 * v.v1 + (c.a2 * v.v2 + c.a3 * v.v3),
     })
 }

@@ -6,7 +6,8 @@ use Prim.Native.Nat.{ℕ, zero, suc, _≤_, _<_}
 use native.Mathlib.Omega.{arith}
 use lib.IntN.{ℤ, pos}
 use lib.ListN.{getD}
-use Rattle.integer.specs.Rounding.{floor, nearest, R, Q, clip}
+use Rattle.integer.specs.Rounding.{floor, nearest, clip}
+use Rattle.integer.specs.Cut.{cut, R, Q}
 use Rattle.thiran.specs.Formula.{factor, a}
 use Rattle.thiran.specs.Coefficients.{coefficient, coefficients}
 use Rattle.allpass.specs.Allpass.{inner, next, out}
@@ -48,7 +49,7 @@ after-5 p = omega arith
 
 silence : (i : ℕ) → i < 2 → read (after o lately .s) i 1 ≡ pos 0
 unfolding
-    floor nearest R Q clip factor a coefficient coefficients inner next out noise spent output written settled
+    floor nearest cut R Q clip factor a coefficient coefficients inner next out noise spent output written settled
     stepped number opened done read step call
 silence zero l = refl
 silence (suc zero) l = refl
@@ -56,7 +57,7 @@ silence (suc (suc i)) l = absurd (omega arith)
 
 last : Instance (quiet ∷ []) (announce 1 9159) (late ∷ []) t 2 4 5 (pos 4886) (pos 4886)
 unfolding
-    floor nearest R Q clip factor a coefficient coefficients inner next out noise spent output written settled
+    floor nearest cut R Q clip factor a coefficient coefficients inner next out noise spent output written settled
     stepped number opened done read step call new State.step State.sounds State.call State.put State.silence
 last =
     given (quiet ∷ []) (announce 1 9159) (late ∷ []) t 2 4 5 (announcing refl) (none-block 5 _ _ _, tt)
@@ -64,7 +65,7 @@ last =
 
 pub instances : Instances
 unfolding
-    floor nearest R Q clip factor a coefficient coefficients inner next out noise spent output written settled
+    floor nearest cut R Q clip factor a coefficient coefficients inner next out noise spent output written settled
     stepped number opened done read step call new State.step State.sounds State.call State.put State.silence
 instances = record {
   announced =

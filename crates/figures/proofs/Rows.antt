@@ -1,7 +1,8 @@
 -- The rows from another implementation, all by computation.
 -- Assumes nothing.
 use mathlib.Core.Path.{refl}
-use Rattle.integer.specs.Rounding.{floor, nearest, R, Q, clip}
+use Rattle.integer.specs.Rounding.{floor, nearest, clip}
+use Rattle.integer.specs.Cut.{cut, R, Q}
 use Rattle.thiran.specs.Formula.{factor, a}
 use Rattle.thiran.specs.Coefficients.{coefficient, coefficients}
 use Rattle.allpass.specs.Allpass.{inner, next, out}
@@ -13,7 +14,7 @@ use Rattle.figures.specs.Rows.{Rows}
 
 pub rows : Rows
 unfolding
-    floor nearest R Q clip factor a coefficient coefficients inner next out Noise.next Noise.value
+    floor nearest cut R Q clip factor a coefficient coefficients inner next out Noise.next Noise.value
     noise spent output written settled stepped number opened done count step sounds call put silence
 rows = record {
   openings = refl;

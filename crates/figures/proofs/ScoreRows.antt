@@ -1,7 +1,8 @@
 -- The rows of scores from another implementation, all by computation.
 -- Assumes nothing.
 use mathlib.Core.Path.{refl}
-use Rattle.integer.specs.Rounding.{floor, nearest, R, Q, clip}
+use Rattle.integer.specs.Rounding.{floor, nearest, clip}
+use Rattle.integer.specs.Cut.{cut, R, Q}
 use Rattle.thiran.specs.Formula.{factor, a}
 use Rattle.thiran.specs.Coefficients.{coefficient, coefficients}
 use Rattle.allpass.specs.Allpass.{inner, next, out}
@@ -16,7 +17,7 @@ use Rattle.figures.specs.ScoreRows.{ScoreRows}
 
 pub score-rows : ScoreRows
 unfolding
-    floor nearest R Q clip factor a coefficient coefficients inner next out Noise.next Noise.value
+    floor nearest cut R Q clip factor a coefficient coefficients inner next out Noise.next Noise.value
     noise spent output written settled stepped number opened done step sounds call put silence
     field recordNumber fields rest then actCalls recordCalls played records run
 score-rows = record { headers = refl; unopened = refl; fields = refl; counts = refl; refused = refl }

@@ -1,7 +1,8 @@
 -- The starred figures, all by computation.
 -- Assumes nothing.
 use mathlib.Core.Path.{refl}
-use Rattle.integer.specs.Rounding.{floor, nearest, R, Q, clip}
+use Rattle.integer.specs.Rounding.{floor, nearest, clip}
+use Rattle.integer.specs.Cut.{cut, R, Q}
 use Rattle.thiran.specs.Formula.{factor, a}
 use Rattle.thiran.specs.Coefficients.{coefficient, coefficients}
 use Rattle.allpass.specs.Allpass.{inner, next, out}
@@ -15,7 +16,7 @@ use Rattle.figures.specs.Starred.{Starred}
 
 pub starred : Starred
 unfolding
-    floor nearest R Q clip factor a coefficient coefficients inner next out response lastAbove
+    floor nearest cut R Q clip factor a coefficient coefficients inner next out response lastAbove
     effectiveLength Noise.next Noise.value octave period splitL splitD pitch
     noise spent output written settled stepped number opened done step sounds call put silence
 starred = record {

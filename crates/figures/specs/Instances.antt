@@ -58,13 +58,13 @@ pub record Instances : Type 0 where
   -- that one, at the third step from there on
   pub instantly :
       Instance (loud ∷ announce 2 9159 ∷ zeros ∷ []) (instant 1 7000) (zeros ∷ [])
-      (record { N = 2; L = 1; d = 7000 }) 2 6 8 (negsuc 1084744) (negsuc 1105081)
+      (record { N = 2; L = 1; d = 7000 }) 2 6 8 (negsuc 1084744) (negsuc 1105079)
   -- L3: asked before step 3 and committed before step 6, when its eliminator has taken 3 samples
   pub committed :
       Instance (loud ∷ ask 2 9159 ∷ zeros ∷ []) commit (zeros ∷ [])
-      (record { N = 2; L = 2; d = 9159 }) 3 6 6 (pos 197680) (pos 198125)
+      (record { N = 2; L = 2; d = 9159 }) 3 6 6 (pos 197680) (pos 198126)
   -- "It does not differ at all if everything the new filter read before the second copy began is zero"
   pub same : Instance (quiet ∷ []) (announce 1 9159) (late ∷ []) t 2 4 5 (pos 4886) (pos 4886)
-  pub line : after o lately .s ≡ pos 0 ∷ pos 0 ∷ pos 5000 ∷ pos 7 ∷ negsuc 326 ∷ pos 1910 ∷ []
+  pub line : after o lately .s ≡ pos 0 ∷ pos 0 ∷ pos 5000 ∷ pos 7 ∷ negsuc 325 ∷ pos 1910 ∷ []
   pub zero : (i : ℕ) → i < 2 → read (after o lately .s) i 1 ≡ pos 0
   pub equal : getD (puts (fresh o) lately) 5 (pos 0) ≡ new t (after o lately .s) 5

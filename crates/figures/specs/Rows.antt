@@ -76,19 +76,19 @@ pub record Rows : Type 0 where
         numbers = 0 ∷ 0 ∷ 10 ∷ 10 ∷ 9 ∷ 9 ∷ 0 ∷ [];
         counts = 0 ∷ 0 ∷ 0 ∷ 0 ∷ 0 ∷ 0 ∷ 0 ∷ [];
         outputs =
-            pos 0 ∷ pos 2794368 ∷ pos 8388607 ∷ pos 4041682 ∷ negsuc 1349180 ∷ pos 6492120
+            pos 0 ∷ pos 2794367 ∷ pos 8388607 ∷ pos 4041684 ∷ negsuc 1349182 ∷ pos 6492120
             ∷ negsuc 8388606 ∷ [];
         voice = record {
           tuning = record { N = 1; L = 1; d = 2049 };
           G = 65535;
           Na = 0;
-          state = negsuc 2368132 ∷ [];
+          state = negsuc 2368134 ∷ [];
           last = negsuc 8388606;
           waiting = none;
           pluck = record { amplitude = 0; left = 0; noise = 0 };
         };
         line =
-            negsuc 8388606 ∷ negsuc 5817176 ∷ negsuc 7042376 ∷ pos 8388607 ∷ negsuc 2797204
+            negsuc 8388606 ∷ negsuc 5817177 ∷ negsuc 7042377 ∷ pos 8388607 ∷ negsuc 2797205
             ∷ pos 8388607 ∷ pos 8388607 ∷ pos 0 ∷ [];
       })
   -- order 2: a change waits over several blocks and takes effect within one, with refusals 2,
@@ -122,27 +122,27 @@ pub record Rows : Type 0 where
             0 ∷ 0 ∷ 2 ∷ 2 ∷ 3 ∷ 3 ∷ 6 ∷ 6 ∷ 0 ∷ 0 ∷ 0 ∷ 0 ∷ 6 ∷ 0 ∷ 0 ∷ 0 ∷ 0 ∷ 0 ∷ 0 ∷ 0 ∷ [];
         counts = 0 ∷ 0 ∷ 0 ∷ 0 ∷ 0 ∷ 0 ∷ 0 ∷ 0 ∷ 0 ∷ 0 ∷ 0 ∷ 0 ∷ 0 ∷ 0 ∷ 0 ∷ 0 ∷ 3 ∷ 0 ∷ 0 ∷ 0 ∷ [];
         outputs =
-            pos 0 ∷ pos 0 ∷ pos 0 ∷ negsuc 19515 ∷ pos 242917 ∷ pos 541319 ∷ negsuc 2003347
-            ∷ pos 54673 ∷ pos 55336 ∷ pos 298677 ∷ negsuc 316292 ∷ negsuc 649792 ∷ pos 111010
-            ∷ pos 82507 ∷ negsuc 302467 ∷ negsuc 152370 ∷ [];
+            pos 0 ∷ pos 0 ∷ pos 0 ∷ negsuc 19514 ∷ pos 242916 ∷ pos 541320 ∷ negsuc 2003347
+            ∷ pos 54674 ∷ pos 55336 ∷ pos 298676 ∷ negsuc 316292 ∷ negsuc 649792 ∷ pos 111008
+            ∷ pos 82508 ∷ negsuc 302466 ∷ negsuc 152372 ∷ [];
         voice = record {
           tuning = record { N = 2; L = 1; d = 8000 };
           G = 40000;
           Na = 3;
-          state = negsuc 69708 ∷ pos 62828 ∷ [];
-          last = negsuc 152370;
+          state = negsuc 69707 ∷ pos 62827 ∷ [];
+          last = negsuc 152372;
           waiting = some (record {
             kind = announced;
             tuning = record { N = 2; L = 3; d = 10240 };
             taken = 2;
-            state = negsuc 248661 ∷ negsuc 294825 ∷ [];
+            state = negsuc 248660 ∷ negsuc 294825 ∷ [];
           });
           pluck = record { amplitude = 0; left = 0; noise = 0 };
         };
         line =
-            negsuc 138805 ∷ negsuc 67121 ∷ pos 59057 ∷ negsuc 164423 ∷ negsuc 294825 ∷ pos 94624
-            ∷ pos 108036 ∷ pos 33572 ∷ negsuc 594687 ∷ negsuc 446175 ∷ pos 239327 ∷ pos 102265
-            ∷ negsuc 8926 ∷ pos 500000 ∷ negsuc 1999999 ∷ pos 1000000 ∷ pos 0 ∷ [];
+            negsuc 138805 ∷ negsuc 67120 ∷ pos 59056 ∷ negsuc 164423 ∷ negsuc 294825 ∷ pos 94624
+            ∷ pos 108035 ∷ pos 33572 ∷ negsuc 594687 ∷ negsuc 446174 ∷ pos 239326 ∷ pos 102264
+            ∷ negsuc 8925 ∷ pos 500000 ∷ negsuc 1999999 ∷ pos 1000000 ∷ pos 0 ∷ [];
       })
   -- order 1, Na 64: instant changes at step 0 and soon after it; one waits at last
   pub early :
@@ -160,24 +160,24 @@ pub record Rows : Type 0 where
         numbers = 0 ∷ 0 ∷ 0 ∷ 0 ∷ 0 ∷ 0 ∷ 0 ∷ [];
         counts = 64 ∷ 64 ∷ 0 ∷ 64 ∷ 0 ∷ 0 ∷ 0 ∷ [];
         outputs =
-            pos 0 ∷ pos 0 ∷ negsuc 298140 ∷ negsuc 4374616 ∷ pos 242741 ∷ negsuc 2700837
-            ∷ negsuc 1833532 ∷ negsuc 1297490 ∷ [];
+            pos 0 ∷ pos 0 ∷ negsuc 298140 ∷ negsuc 4374617 ∷ pos 242740 ∷ negsuc 2700836
+            ∷ negsuc 1833533 ∷ negsuc 1297489 ∷ [];
         voice = record {
           tuning = record { N = 1; L = 1; d = 2979 };
           G = 65535;
           Na = 64;
-          state = negsuc 2115020 ∷ [];
-          last = negsuc 1297490;
+          state = negsuc 2115019 ∷ [];
+          last = negsuc 1297489;
           waiting = some (record {
             kind = announced;
             tuning = record { N = 1; L = 3; d = 5555 };
             taken = 2;
-            state = negsuc 2419087 ∷ [];
+            state = negsuc 2419088 ∷ [];
           });
           pluck = record { amplitude = 0; left = 0; noise = 0 };
         };
         line =
-            negsuc 1565488 ∷ negsuc 2267150 ∷ negsuc 1229029 ∷ negsuc 2065905 ∷ negsuc 2336342
+            negsuc 1565488 ∷ negsuc 2267149 ∷ negsuc 1229028 ∷ negsuc 2065906 ∷ negsuc 2336342
             ∷ negsuc 79067 ∷ negsuc 3999999 ∷ pos 3000000 ∷ pos 0 ∷ [];
       })
   -- order 2, L 2,048: silent up to an instant change that reaches back before step 0
@@ -192,18 +192,18 @@ pub record Rows : Type 0 where
         numbers = 0 ∷ 0 ∷ 0 ∷ [];
         counts = 0 ∷ 64 ∷ 0 ∷ [];
         outputs =
-            pos 0 ∷ pos 0 ∷ negsuc 180558 ∷ pos 1212390 ∷ negsuc 7455155 ∷ negsuc 1290546 ∷ [];
+            pos 0 ∷ pos 0 ∷ negsuc 180558 ∷ pos 1212389 ∷ negsuc 7455157 ∷ negsuc 1290544 ∷ [];
         voice = record {
           tuning = record { N = 2; L = 1; d = 9159 };
           G = 50000;
           Na = 64;
-          state = negsuc 2300281 ∷ pos 383163 ∷ [];
-          last = negsuc 1290546;
+          state = negsuc 2300283 ∷ pos 383162 ∷ [];
+          last = negsuc 1290544;
           waiting = none;
           pluck = record { amplitude = 0; left = 0; noise = 0 };
         };
         line =
-            negsuc 3336220 ∷ negsuc 2381425 ∷ pos 393612 ∷ negsuc 68877 ∷ negsuc 7654320
+            negsuc 3336219 ∷ negsuc 2381426 ∷ pos 393611 ∷ negsuc 68876 ∷ negsuc 7654320
             ∷ pos 123456 ∷ pos 0 ∷ [];
       })
   -- Na 0: announced changes take effect in the call, several at one step; refusal 4; G 0
@@ -227,20 +227,20 @@ pub record Rows : Type 0 where
         numbers = 0 ∷ 0 ∷ 0 ∷ 0 ∷ 0 ∷ 0 ∷ 0 ∷ 0 ∷ 0 ∷ 4 ∷ 0 ∷ 0 ∷ [];
         counts = 0 ∷ 0 ∷ 0 ∷ 0 ∷ 0 ∷ 0 ∷ 0 ∷ 0 ∷ 0 ∷ 0 ∷ 0 ∷ 0 ∷ [];
         outputs =
-            pos 0 ∷ pos 47623 ∷ negsuc 366224 ∷ negsuc 55438 ∷ pos 583290 ∷ pos 2675659 ∷ pos 0
-            ∷ pos 34684 ∷ negsuc 204206 ∷ pos 1404094 ∷ pos 1542685 ∷ pos 224906 ∷ [];
+            pos 0 ∷ pos 47622 ∷ negsuc 366224 ∷ negsuc 55438 ∷ pos 583289 ∷ pos 2675660 ∷ pos 0
+            ∷ pos 34684 ∷ negsuc 204205 ∷ pos 1404093 ∷ pos 1542686 ∷ pos 224904 ∷ [];
         voice = record {
           tuning = record { N = 2; L = 2; d = 9159 };
           G = 0;
           Na = 0;
-          state = negsuc 17259 ∷ negsuc 87286 ∷ [];
-          last = pos 224906;
+          state = negsuc 17258 ∷ negsuc 87285 ∷ [];
+          last = pos 224904;
           waiting = none;
           pluck = record { amplitude = 0; left = 0; noise = 0 };
         };
         line =
-            negsuc 6 ∷ pos 0 ∷ pos 0 ∷ negsuc 84759 ∷ pos 17342 ∷ pos 1337809 ∷ pos 1629450
-            ∷ pos 263921 ∷ negsuc 210828 ∷ pos 2840701 ∷ negsuc 1976188 ∷ pos 1000000 ∷ pos 0 ∷ [];
+            negsuc 6 ∷ pos 0 ∷ pos 0 ∷ negsuc 84758 ∷ pos 17341 ∷ pos 1337809 ∷ pos 1629449
+            ∷ pos 263920 ∷ negsuc 210827 ∷ pos 2840701 ∷ negsuc 1976189 ∷ pos 1000000 ∷ pos 0 ∷ [];
       })
   -- order 2, Na 2: asks with refusals 2, 3 and 6, and a change while one waits; commits with
   -- nothing asked, too early, and four samples late; one waits at last, past Na
@@ -270,26 +270,26 @@ pub record Rows : Type 0 where
         numbers = 0 ∷ 21 ∷ 21 ∷ 2 ∷ 3 ∷ 0 ∷ 6 ∷ 6 ∷ 2 ∷ 20 ∷ 0 ∷ 20 ∷ 0 ∷ 0 ∷ 21 ∷ 0 ∷ 0 ∷ 0 ∷ [];
         counts = 0 ∷ 0 ∷ 0 ∷ 0 ∷ 0 ∷ 0 ∷ 0 ∷ 0 ∷ 0 ∷ 0 ∷ 0 ∷ 0 ∷ 0 ∷ 0 ∷ 0 ∷ 0 ∷ 0 ∷ 0 ∷ [];
         outputs =
-            pos 0 ∷ pos 0 ∷ pos 0 ∷ negsuc 19515 ∷ pos 242917 ∷ pos 541319 ∷ negsuc 2003347
-            ∷ pos 907415 ∷ negsuc 216052 ∷ pos 450539 ∷ negsuc 524429 ∷ negsuc 631675 ∷ pos 219097
+            pos 0 ∷ pos 0 ∷ pos 0 ∷ negsuc 19514 ∷ pos 242916 ∷ pos 541320 ∷ negsuc 2003347
+            ∷ pos 907415 ∷ negsuc 216051 ∷ pos 450537 ∷ negsuc 524429 ∷ negsuc 631674 ∷ pos 219099
             ∷ pos 146422 ∷ [];
         voice = record {
           tuning = record { N = 2; L = 2; d = 9159 };
           G = 60000;
           Na = 2;
-          state = negsuc 534909 ∷ negsuc 16300 ∷ [];
+          state = negsuc 534907 ∷ negsuc 16301 ∷ [];
           last = pos 146422;
           waiting = some (record {
             kind = asked;
             tuning = record { N = 2; L = 1; d = 6145 };
             taken = 2;
-            state = pos 16320 ∷ negsuc 515700 ∷ [];
+            state = pos 16321 ∷ negsuc 515699 ∷ [];
           });
           pluck = record { amplitude = 0; left = 0; noise = 0 };
         };
         line =
-            pos 167321 ∷ negsuc 188872 ∷ negsuc 529222 ∷ negsuc 33824 ∷ pos 107339 ∷ pos 316480
-            ∷ negsuc 501677 ∷ negsuc 669256 ∷ pos 358995 ∷ pos 102265 ∷ negsuc 8933 ∷ pos 500000
+            pos 167322 ∷ negsuc 188870 ∷ negsuc 529221 ∷ negsuc 33824 ∷ pos 107338 ∷ pos 316480
+            ∷ negsuc 501677 ∷ negsuc 669255 ∷ pos 358994 ∷ pos 102264 ∷ negsuc 8932 ∷ pos 500000
             ∷ negsuc 1999999 ∷ pos 1000000 ∷ pos 0 ∷ [];
       })
   -- order 1, Na 0: an ask waits, and is committed at once, from rest, or late; an announced
@@ -315,20 +315,20 @@ pub record Rows : Type 0 where
         numbers = 0 ∷ 0 ∷ 0 ∷ 0 ∷ 0 ∷ 0 ∷ 6 ∷ 0 ∷ 21 ∷ 0 ∷ 0 ∷ 21 ∷ 0 ∷ [];
         counts = 0 ∷ 0 ∷ 0 ∷ 0 ∷ 0 ∷ 0 ∷ 0 ∷ 0 ∷ 0 ∷ 0 ∷ 0 ∷ 0 ∷ 0 ∷ [];
         outputs =
-            pos 0 ∷ pos 0 ∷ negsuc 298140 ∷ pos 15813 ∷ negsuc 47672 ∷ negsuc 147509 ∷ negsuc 25913
-            ∷ negsuc 85430 ∷ negsuc 12665 ∷ negsuc 122255 ∷ negsuc 7574 ∷ negsuc 58296 ∷ [];
+            pos 0 ∷ pos 0 ∷ negsuc 298140 ∷ pos 15813 ∷ negsuc 47673 ∷ negsuc 147509 ∷ negsuc 25913
+            ∷ negsuc 85430 ∷ negsuc 12665 ∷ negsuc 122253 ∷ negsuc 7574 ∷ negsuc 58294 ∷ [];
         voice = record {
           tuning = record { N = 1; L = 2; d = 3000 };
           G = 65535;
           Na = 0;
-          state = negsuc 59884 ∷ [];
-          last = negsuc 58296;
+          state = negsuc 59882 ∷ [];
+          last = negsuc 58294;
           waiting = none;
           pluck = record { amplitude = 0; left = 0; noise = 0 };
         };
         line =
-            negsuc 32934 ∷ negsuc 64914 ∷ negsuc 67459 ∷ negsuc 49047 ∷ negsuc 55671 ∷ negsuc 86710
-            ∷ negsuc 97589 ∷ negsuc 15929 ∷ negsuc 141161 ∷ negsuc 79067 ∷ negsuc 3999999
+            negsuc 32933 ∷ negsuc 64912 ∷ negsuc 67457 ∷ negsuc 49046 ∷ negsuc 55670 ∷ negsuc 86709
+            ∷ negsuc 97589 ∷ negsuc 15929 ∷ negsuc 141160 ∷ negsuc 79067 ∷ negsuc 3999999
             ∷ pos 3000000 ∷ pos 0 ∷ [];
       })
   -- order 1, Na 2: an ask is withdrawn, early and late, and leaves the voice as if it had not
@@ -358,20 +358,20 @@ pub record Rows : Type 0 where
         numbers = 0 ∷ 0 ∷ 0 ∷ 0 ∷ 21 ∷ 0 ∷ 0 ∷ 0 ∷ 0 ∷ 0 ∷ 21 ∷ 21 ∷ 0 ∷ 21 ∷ 0 ∷ 21 ∷ 0 ∷ [];
         counts = 0 ∷ 0 ∷ 0 ∷ 0 ∷ 0 ∷ 0 ∷ 0 ∷ 0 ∷ 0 ∷ 0 ∷ 0 ∷ 0 ∷ 0 ∷ 0 ∷ 0 ∷ 0 ∷ 0 ∷ [];
         outputs =
-            pos 0 ∷ pos 0 ∷ pos 0 ∷ pos 315765 ∷ pos 1792263 ∷ negsuc 1278229 ∷ pos 255393
-            ∷ pos 266473 ∷ pos 993462 ∷ pos 9911 ∷ pos 79652 ∷ pos 536271 ∷ [];
+            pos 0 ∷ pos 0 ∷ pos 0 ∷ pos 315765 ∷ pos 1792264 ∷ negsuc 1278230 ∷ pos 255391
+            ∷ pos 266473 ∷ pos 993463 ∷ pos 9912 ∷ pos 79652 ∷ pos 536272 ∷ [];
         voice = record {
           tuning = record { N = 1; L = 2; d = 5555 };
           G = 62000;
           Na = 2;
-          state = pos 568681 ∷ [];
-          last = pos 536271;
+          state = pos 568680 ∷ [];
+          last = pos 536272;
           waiting = none;
           pluck = record { amplitude = 0; left = 0; noise = 0 };
         };
         line =
-            pos 291345 ∷ pos 42365 ∷ pos 474618 ∷ pos 595978 ∷ pos 246854 ∷ negsuc 483824
-            ∷ pos 243149 ∷ pos 997145 ∷ pos 149364 ∷ pos 30000 ∷ negsuc 999999 ∷ pos 2000000
+            pos 291345 ∷ pos 42365 ∷ pos 474618 ∷ pos 595978 ∷ pos 246853 ∷ negsuc 483825
+            ∷ pos 243149 ∷ pos 997145 ∷ pos 149363 ∷ pos 30000 ∷ negsuc 999999 ∷ pos 2000000
             ∷ pos 0 ∷ [];
       })
   -- refusals 7 and 8; plucks replaced while they sound, one that runs out, one that is left
@@ -398,20 +398,20 @@ pub record Rows : Type 0 where
         numbers = 7 ∷ 8 ∷ 8 ∷ 0 ∷ 0 ∷ 0 ∷ 0 ∷ 0 ∷ 0 ∷ 0 ∷ 0 ∷ 0 ∷ 0 ∷ 0 ∷ 0 ∷ [];
         counts = 0 ∷ 0 ∷ 0 ∷ 0 ∷ 0 ∷ 0 ∷ 0 ∷ 0 ∷ 0 ∷ 0 ∷ 0 ∷ 0 ∷ 0 ∷ 1 ∷ 0 ∷ [];
         outputs =
-            pos 0 ∷ pos 0 ∷ pos 0 ∷ pos 5411962 ∷ negsuc 7358343 ∷ negsuc 1813178 ∷ pos 1782938
-            ∷ pos 253535 ∷ negsuc 1306876 ∷ [];
+            pos 0 ∷ pos 0 ∷ pos 0 ∷ pos 5411961 ∷ negsuc 7358344 ∷ negsuc 1813176 ∷ pos 1782937
+            ∷ pos 253534 ∷ negsuc 1306874 ∷ [];
         voice = record {
           tuning = record { N = 1; L = 1; d = 3000 };
           G = 20000;
           Na = 1;
-          state = negsuc 8386824 ∷ [];
-          last = negsuc 1306876;
+          state = negsuc 8386825 ∷ [];
+          last = negsuc 1306874;
           waiting = none;
           pluck = record { amplitude = 200; left = 1; noise = 1196435762 };
         };
         line =
-            negsuc 3063126 ∷ negsuc 8388606 ∷ negsuc 11535 ∷ negsuc 3498657 ∷ negsuc 742485
-            ∷ pos 1984853 ∷ negsuc 51206 ∷ negsuc 8388606 ∷ pos 3971242 ∷ pos 0 ∷ [];
+            negsuc 3063126 ∷ negsuc 8388606 ∷ negsuc 11534 ∷ negsuc 3498656 ∷ negsuc 742485
+            ∷ pos 1984852 ∷ negsuc 51206 ∷ negsuc 8388606 ∷ pos 3971242 ∷ pos 0 ∷ [];
       })
   -- order 1: halves, and sums below zero, in R and in the loop
   pub halves1 :
@@ -424,19 +424,19 @@ pub record Rows : Type 0 where
         numbers = 0 ∷ 0 ∷ [];
         counts = 0 ∷ 0 ∷ [];
         outputs =
-            pos 0 ∷ pos 6554 ∷ negsuc 31783 ∷ negsuc 3459 ∷ negsuc 5238 ∷ negsuc 15971 ∷ pos 28459
+            pos 0 ∷ pos 6553 ∷ negsuc 31784 ∷ negsuc 3459 ∷ negsuc 5239 ∷ negsuc 15971 ∷ pos 28461
             ∷ [];
         voice = record {
           tuning = record { N = 1; L = 1; d = 6144 };
           G = 32768;
           Na = 0;
           state = pos 405 ∷ [];
-          last = pos 28459;
+          last = pos 28461;
           waiting = none;
           pluck = record { amplitude = 0; left = 0; noise = 0 };
         };
         line =
-            pos 3122 ∷ negsuc 5302 ∷ pos 30593 ∷ negsuc 8805 ∷ negsuc 6307 ∷ pos 1636
+            pos 3122 ∷ negsuc 5302 ∷ pos 30593 ∷ negsuc 8805 ∷ negsuc 6308 ∷ pos 1635
             ∷ negsuc 32767 ∷ pos 0 ∷ [];
       })
   -- the same in order 2
@@ -450,7 +450,7 @@ pub record Rows : Type 0 where
         numbers = 0 ∷ 0 ∷ [];
         counts = 0 ∷ 0 ∷ [];
         outputs =
-            pos 0 ∷ pos 1561 ∷ negsuc 8897 ∷ pos 29953 ∷ pos 10147 ∷ negsuc 1389 ∷ pos 1621 ∷ [];
+            pos 0 ∷ pos 1560 ∷ negsuc 8897 ∷ pos 29953 ∷ pos 10147 ∷ negsuc 1389 ∷ pos 1621 ∷ [];
         voice = record {
           tuning = record { N = 2; L = 1; d = 10240 };
           G = 32768;
@@ -461,7 +461,7 @@ pub record Rows : Type 0 where
           pluck = record { amplitude = 0; left = 0; noise = 0 };
         };
         line =
-            pos 58 ∷ pos 2189 ∷ pos 10030 ∷ pos 5263 ∷ negsuc 1836 ∷ pos 390 ∷ pos 32768 ∷ pos 0
+            pos 57 ∷ pos 2189 ∷ pos 10030 ∷ pos 5262 ∷ negsuc 1836 ∷ pos 390 ∷ pos 32768 ∷ pos 0
             ∷ [];
       })
   -- the same in order 3
@@ -475,19 +475,19 @@ pub record Rows : Type 0 where
         numbers = 0 ∷ 0 ∷ [];
         counts = 0 ∷ 0 ∷ [];
         outputs =
-            pos 0 ∷ negsuc 381 ∷ pos 2853 ∷ negsuc 9952 ∷ pos 29295 ∷ pos 10185 ∷ pos 2148
-            ∷ negsuc 2396 ∷ pos 1339 ∷ [];
+            pos 0 ∷ negsuc 381 ∷ pos 2852 ∷ negsuc 9951 ∷ pos 29295 ∷ pos 10186 ∷ pos 2145
+            ∷ negsuc 2395 ∷ pos 1339 ∷ [];
         voice = record {
           tuning = record { N = 3; L = 1; d = 14336 };
           G = 32768;
           Na = 0;
-          state = negsuc 31656 ∷ pos 6499 ∷ pos 11463 ∷ [];
+          state = negsuc 31657 ∷ pos 6497 ∷ pos 11462 ∷ [];
           last = pos 1339;
           waiting = none;
           pluck = record { amplitude = 0; left = 0; noise = 0 };
         };
         line =
-            negsuc 263 ∷ negsuc 32829 ∷ pos 3083 ∷ pos 9870 ∷ pos 4841 ∷ negsuc 1775 ∷ pos 615
+            negsuc 263 ∷ negsuc 32829 ∷ pos 3082 ∷ pos 9870 ∷ pos 4840 ∷ negsuc 1775 ∷ pos 614
             ∷ negsuc 94 ∷ pos 32768 ∷ pos 0 ∷ [];
       })
   -- order 1, G 65,535: what is lost of sums small and large; a half, above and below zero
@@ -503,18 +503,18 @@ pub record Rows : Type 0 where
         counts = 0 ∷ 0 ∷ 0 ∷ [];
         outputs =
             pos 0 ∷ pos 0 ∷ pos 0 ∷ pos 0 ∷ pos 0 ∷ pos 3 ∷ pos 0 ∷ negsuc 2 ∷ pos 0 ∷ pos 65536
-            ∷ pos 1 ∷ negsuc 65534 ∷ negsuc 0 ∷ pos 131073 ∷ pos 32768 ∷ [];
+            ∷ pos 1 ∷ negsuc 65534 ∷ negsuc 0 ∷ pos 131073 ∷ pos 32767 ∷ [];
         voice = record {
           tuning = record { N = 1; L = 4; d = 4096 };
           G = 65535;
           Na = 0;
-          state = negsuc 98305 ∷ [];
-          last = pos 32768;
+          state = negsuc 98306 ∷ [];
+          last = pos 32767;
           waiting = none;
           pluck = record { amplitude = 0; left = 0; noise = 0 };
         };
         line =
-            pos 81919 ∷ pos 65535 ∷ negsuc 32766 ∷ negsuc 32766 ∷ negsuc 98305 ∷ pos 32768
+            pos 81918 ∷ pos 65535 ∷ negsuc 32766 ∷ negsuc 32765 ∷ negsuc 98306 ∷ pos 32767
             ∷ pos 131073 ∷ negsuc 0 ∷ negsuc 65534 ∷ pos 1 ∷ pos 65536 ∷ pos 0 ∷ negsuc 2 ∷ pos 0
             ∷ pos 3 ∷ pos 0 ∷ [];
       })
@@ -536,13 +536,13 @@ pub record Rows : Type 0 where
           tuning = record { N = 2; L = 4; d = 8192 };
           G = 65000;
           Na = 0;
-          state = negsuc 4129 ∷ negsuc 0 ∷ [];
+          state = negsuc 4130 ∷ negsuc 0 ∷ [];
           last = pos 8192;
           waiting = none;
           pluck = record { amplitude = 0; left = 0; noise = 0 };
         };
         line =
-            pos 4063 ∷ negsuc 4061 ∷ negsuc 4061 ∷ pos 4063 ∷ negsuc 4129 ∷ negsuc 0 ∷ pos 8192
+            pos 4062 ∷ negsuc 4060 ∷ negsuc 4061 ∷ pos 4062 ∷ negsuc 4130 ∷ negsuc 0 ∷ pos 8192
             ∷ pos 1 ∷ negsuc 8190 ∷ pos 0 ∷ pos 8192 ∷ pos 0 ∷ negsuc 2 ∷ pos 0 ∷ pos 3 ∷ pos 0
             ∷ [];
       })
@@ -570,29 +570,29 @@ pub record Rows : Type 0 where
         numbers = 0 ∷ 0 ∷ 0 ∷ 0 ∷ 3 ∷ 3 ∷ 6 ∷ 0 ∷ 0 ∷ 0 ∷ 0 ∷ 0 ∷ 0 ∷ 0 ∷ [];
         counts = 0 ∷ 4 ∷ 0 ∷ 0 ∷ 0 ∷ 0 ∷ 0 ∷ 0 ∷ 0 ∷ 0 ∷ 0 ∷ 0 ∷ 0 ∷ 0 ∷ [];
         outputs =
-            pos 0 ∷ pos 0 ∷ pos 4333 ∷ negsuc 58130 ∷ pos 1541403 ∷ negsuc 1619471 ∷ negsuc 106572
-            ∷ negsuc 137909 ∷ pos 622442 ∷ pos 358503 ∷ pos 35973 ∷ negsuc 39033 ∷ negsuc 863017
-            ∷ negsuc 122239 ∷ pos 8388607 ∷ negsuc 2943734 ∷ pos 3239035 ∷ negsuc 4187863
-            ∷ pos 2513284 ∷ pos 3776731 ∷ pos 1174582 ∷ [];
+            pos 0 ∷ pos 0 ∷ pos 4333 ∷ negsuc 58129 ∷ pos 1541402 ∷ negsuc 1619472 ∷ negsuc 106572
+            ∷ negsuc 137907 ∷ pos 622442 ∷ pos 358502 ∷ pos 35971 ∷ negsuc 39033 ∷ negsuc 863017
+            ∷ negsuc 122237 ∷ pos 8388607 ∷ negsuc 2943735 ∷ pos 3239033 ∷ negsuc 4187861
+            ∷ pos 2513287 ∷ pos 3776731 ∷ pos 1174580 ∷ [];
         voice = record {
           tuning = record { N = 3; L = 1; d = 14336 };
           G = 65535;
           Na = 4;
-          state = pos 2851947 ∷ negsuc 1035334 ∷ negsuc 424193 ∷ [];
-          last = pos 1174582;
+          state = pos 2851950 ∷ negsuc 1035330 ∷ negsuc 424194 ∷ [];
+          last = pos 1174580;
           waiting = some (record {
             kind = announced;
             tuning = record { N = 3; L = 2; d = 10241 };
             taken = 3;
-            state = negsuc 599956 ∷ negsuc 537648 ∷ pos 147648 ∷ [];
+            state = negsuc 599954 ∷ negsuc 537647 ∷ pos 147646 ∷ [];
           });
           pluck = record { amplitude = 0; left = 0; noise = 0 };
         };
         line =
-            pos 2475619 ∷ pos 3144960 ∷ negsuc 837276 ∷ negsuc 474406 ∷ pos 147648 ∷ pos 2722394
-            ∷ pos 4133120 ∷ negsuc 492620 ∷ negsuc 8388606 ∷ negsuc 3369129 ∷ pos 3239035
-            ∷ negsuc 2943734 ∷ pos 8388607 ∷ negsuc 122239 ∷ negsuc 863017 ∷ negsuc 39033
-            ∷ pos 741625 ∷ negsuc 26891 ∷ pos 502166 ∷ negsuc 1999999 ∷ pos 1000000 ∷ pos 0 ∷ [];
+            pos 2475617 ∷ pos 3144961 ∷ negsuc 837273 ∷ negsuc 474406 ∷ pos 147646 ∷ pos 2722393
+            ∷ pos 4133121 ∷ negsuc 492619 ∷ negsuc 8388606 ∷ negsuc 3369130 ∷ pos 3239033
+            ∷ negsuc 2943735 ∷ pos 8388607 ∷ negsuc 122237 ∷ negsuc 863017 ∷ negsuc 39033
+            ∷ pos 741624 ∷ negsuc 26890 ∷ pos 502166 ∷ negsuc 1999999 ∷ pos 1000000 ∷ pos 0 ∷ [];
       })
   -- order 3, Na 64: an instant change that reaches back before step 0; one waits at last
   pub early3 :
@@ -608,25 +608,25 @@ pub record Rows : Type 0 where
         numbers = 0 ∷ 0 ∷ 0 ∷ 0 ∷ 0 ∷ [];
         counts = 0 ∷ 64 ∷ 0 ∷ 0 ∷ 0 ∷ [];
         outputs =
-            pos 0 ∷ pos 9979 ∷ negsuc 97126 ∷ pos 157881 ∷ negsuc 1342674 ∷ negsuc 1028955
-            ∷ pos 4328593 ∷ negsuc 1571386 ∷ pos 662479 ∷ [];
+            pos 0 ∷ pos 9979 ∷ negsuc 97125 ∷ pos 157880 ∷ negsuc 1342674 ∷ negsuc 1028956
+            ∷ pos 4328594 ∷ negsuc 1571385 ∷ pos 662478 ∷ [];
         voice = record {
           tuning = record { N = 3; L = 2; d = 10500 };
           G = 60000;
           Na = 64;
-          state = pos 1700974 ∷ negsuc 656222 ∷ negsuc 1021943 ∷ [];
-          last = pos 662479;
+          state = pos 1700973 ∷ negsuc 656222 ∷ negsuc 1021941 ∷ [];
+          last = pos 662478;
           waiting = some (record {
             kind = announced;
             tuning = record { N = 3; L = 1; d = 14000 };
             taken = 2;
-            state = pos 1690841 ∷ pos 1510454 ∷ pos 0 ∷ [];
+            state = pos 1690840 ∷ pos 1510453 ∷ pos 0 ∷ [];
           });
           pluck = record { amplitude = 0; left = 0; noise = 0 };
         };
         line =
-            negsuc 416065 ∷ pos 1262154 ∷ pos 1510454 ∷ negsuc 1085646 ∷ negsuc 542355 ∷ pos 27811
-            ∷ pos 30107 ∷ pos 4004568 ∷ negsuc 2999999 ∷ pos 0 ∷ [];
+            negsuc 416065 ∷ pos 1262154 ∷ pos 1510453 ∷ negsuc 1085645 ∷ negsuc 542355 ∷ pos 27810
+            ∷ pos 30108 ∷ pos 4004568 ∷ negsuc 2999999 ∷ pos 0 ∷ [];
       })
   -- order 3, Na 0: announced changes take effect in the call
   pub at-once3 :
@@ -642,20 +642,20 @@ pub record Rows : Type 0 where
         numbers = 0 ∷ 0 ∷ 0 ∷ 0 ∷ 0 ∷ [];
         counts = 0 ∷ 0 ∷ 0 ∷ 0 ∷ 0 ∷ [];
         outputs =
-            pos 0 ∷ negsuc 11657 ∷ pos 110409 ∷ negsuc 8691 ∷ pos 112430 ∷ negsuc 1052678 ∷ pos 0
+            pos 0 ∷ negsuc 11656 ∷ pos 110409 ∷ negsuc 8691 ∷ pos 112429 ∷ negsuc 1052677 ∷ pos 0
             ∷ pos 0 ∷ pos 0 ∷ [];
         voice = record {
           tuning = record { N = 3; L = 1; d = 12288 };
           G = 65535;
           Na = 0;
-          state = pos 0 ∷ negsuc 526330 ∷ negsuc 470116 ∷ [];
+          state = pos 0 ∷ negsuc 526329 ∷ negsuc 470116 ∷ [];
           last = pos 0;
           waiting = none;
           pluck = record { amplitude = 0; left = 0; noise = 0 };
         };
         line =
-            negsuc 6 ∷ pos 0 ∷ negsuc 526330 ∷ negsuc 470116 ∷ pos 51868 ∷ pos 50858 ∷ pos 3049375
-            ∷ negsuc 2005828 ∷ pos 1000000 ∷ pos 0 ∷ [];
+            negsuc 6 ∷ pos 0 ∷ negsuc 526329 ∷ negsuc 470116 ∷ pos 51867 ∷ pos 50857 ∷ pos 3049375
+            ∷ negsuc 2005827 ∷ pos 1000000 ∷ pos 0 ∷ [];
       })
   -- order 3, Na 2: a commit too early, one three samples late, a withdrawal, a commit in time
   pub asked3 :
@@ -680,22 +680,22 @@ pub record Rows : Type 0 where
         numbers = 0 ∷ 0 ∷ 0 ∷ 20 ∷ 0 ∷ 0 ∷ 0 ∷ 0 ∷ 0 ∷ 0 ∷ 0 ∷ 0 ∷ 0 ∷ 0 ∷ [];
         counts = 0 ∷ 0 ∷ 0 ∷ 0 ∷ 0 ∷ 0 ∷ 0 ∷ 0 ∷ 0 ∷ 0 ∷ 0 ∷ 0 ∷ 0 ∷ 0 ∷ [];
         outputs =
-            pos 0 ∷ pos 0 ∷ pos 3387 ∷ negsuc 41285 ∷ pos 297909 ∷ pos 477204 ∷ negsuc 1983362
-            ∷ pos 945009 ∷ negsuc 282381 ∷ pos 561283 ∷ negsuc 353868 ∷ negsuc 782867 ∷ pos 76186
-            ∷ pos 149303 ∷ negsuc 36667 ∷ pos 176350 ∷ [];
+            pos 0 ∷ pos 0 ∷ pos 3387 ∷ negsuc 41285 ∷ pos 297909 ∷ pos 477205 ∷ negsuc 1983362
+            ∷ pos 945009 ∷ negsuc 282380 ∷ pos 561282 ∷ negsuc 353869 ∷ negsuc 782864 ∷ pos 76188
+            ∷ pos 149304 ∷ negsuc 36666 ∷ pos 176348 ∷ [];
         voice = record {
           tuning = record { N = 3; L = 2; d = 13255 };
           G = 65000;
           Na = 2;
-          state = pos 59324 ∷ negsuc 445882 ∷ negsuc 546513 ∷ [];
-          last = pos 176350;
+          state = pos 59326 ∷ negsuc 445879 ∷ negsuc 546512 ∷ [];
+          last = pos 176348;
           waiting = none;
           pluck = record { amplitude = 0; left = 0; noise = 0 };
         };
         line =
-            pos 69270 ∷ pos 55857 ∷ pos 111813 ∷ negsuc 350450 ∷ negsuc 563710 ∷ pos 102859
-            ∷ pos 138310 ∷ pos 328604 ∷ negsuc 514930 ∷ negsuc 746919 ∷ pos 384387 ∷ pos 127262
-            ∷ negsuc 18787 ∷ pos 501680 ∷ negsuc 1999999 ∷ pos 1000000 ∷ pos 0 ∷ [];
+            pos 69269 ∷ pos 55857 ∷ pos 111814 ∷ negsuc 350447 ∷ negsuc 563708 ∷ pos 102857
+            ∷ pos 138309 ∷ pos 328604 ∷ negsuc 514929 ∷ negsuc 746918 ∷ pos 384387 ∷ pos 127262
+            ∷ negsuc 18786 ∷ pos 501679 ∷ negsuc 1999999 ∷ pos 1000000 ∷ pos 0 ∷ [];
       })
   -- Open refuses by 5: the calls go to its refusal voice; a pluck runs out at last
   pub refused5 :
@@ -713,19 +713,19 @@ pub record Rows : Type 0 where
         numbers = 0 ∷ 3 ∷ 0 ∷ 0 ∷ 0 ∷ 0 ∷ 0 ∷ [];
         counts = 0 ∷ 0 ∷ 0 ∷ 0 ∷ 0 ∷ 0 ∷ 0 ∷ [];
         outputs =
-            pos 0 ∷ pos 0 ∷ pos 1000 ∷ negsuc 1999 ∷ pos 199 ∷ negsuc 1979 ∷ negsuc 196 ∷ pos 1789
+            pos 0 ∷ pos 0 ∷ pos 1000 ∷ negsuc 1999 ∷ pos 198 ∷ negsuc 1980 ∷ negsuc 196 ∷ pos 1789
             ∷ [];
         voice = record {
           tuning = record { N = 1; L = 3; d = 5000 };
           G = 65535;
           Na = 0;
-          state = negsuc 18199 ∷ [];
+          state = negsuc 18198 ∷ [];
           last = pos 1789;
           waiting = none;
           pluck = record { amplitude = 0; left = 0; noise = 0 };
         };
         line =
-            pos 11797 ∷ pos 19852 ∷ negsuc 15401 ∷ negsuc 18197 ∷ pos 0 ∷ pos 0 ∷ negsuc 1999
+            pos 11796 ∷ pos 19852 ∷ negsuc 15402 ∷ negsuc 18197 ∷ pos 0 ∷ pos 0 ∷ negsuc 1999
             ∷ pos 1000 ∷ pos 0 ∷ [];
       })
   -- Open refuses by 1, with all numbers outside their limits

@@ -38,8 +38,8 @@ headers =
       number = 0;
       place = 2;
       samples =
-          pos 0 ∷ pos 0 ∷ pos 0 ∷ negsuc 1845 ∷ negsuc 157208 ∷ negsuc 128743 ∷ pos 1517
-          ∷ negsuc 1725 ∷ negsuc 74341 ∷ [];
+          pos 0 ∷ pos 0 ∷ pos 0 ∷ negsuc 1844 ∷ negsuc 157207 ∷ negsuc 128744 ∷ pos 1516
+          ∷ negsuc 1724 ∷ negsuc 74338 ∷ [];
     }
     ∷ record {
       bytes = 2 ∷ 0 ∷ 3 ∷ 0 ∷ 100 ∷ 25 ∷ 96 ∷ 234 ∷ 48 ∷ 9 ∷ 0 ∷ 2 ∷ 0 ∷ 1 ∷ 9 ∷ 0 ∷ [];
@@ -47,8 +47,8 @@ headers =
       number = 0;
       place = 2;
       samples =
-          pos 0 ∷ pos 0 ∷ pos 0 ∷ pos 4067 ∷ negsuc 47606 ∷ negsuc 182083 ∷ negsuc 73748
-          ∷ pos 19912 ∷ negsuc 10041 ∷ [];
+          pos 0 ∷ pos 0 ∷ pos 0 ∷ pos 4066 ∷ negsuc 47605 ∷ negsuc 182082 ∷ negsuc 73749
+          ∷ pos 19912 ∷ negsuc 10042 ∷ [];
     }
     ∷ record {
       bytes = 3 ∷ 0 ∷ 3 ∷ 0 ∷ 4 ∷ 41 ∷ 96 ∷ 234 ∷ 48 ∷ 9 ∷ 0 ∷ 2 ∷ 0 ∷ 1 ∷ 9 ∷ 0 ∷ [];
@@ -56,8 +56,8 @@ headers =
       number = 0;
       place = 2;
       samples =
-          pos 0 ∷ pos 0 ∷ pos 0 ∷ negsuc 662 ∷ pos 6752 ∷ negsuc 53796 ∷ negsuc 183601
-          ∷ negsuc 65579 ∷ pos 15668 ∷ [];
+          pos 0 ∷ pos 0 ∷ pos 0 ∷ negsuc 661 ∷ pos 6752 ∷ negsuc 53795 ∷ negsuc 183601
+          ∷ negsuc 65581 ∷ pos 15669 ∷ [];
     }
     ∷ record {
       bytes = 1 ∷ 0 ∷ 2 ∷ 0 ∷ 160 ∷ 15 ∷ 96 ∷ 234 ∷ 48 ∷ 9 ∷ 0 ∷ 2 ∷ 0 ∷ 1 ∷ 9 ∷ 0 ∷ [];
@@ -65,8 +65,8 @@ headers =
       number = 0;
       place = 2;
       samples =
-          pos 0 ∷ pos 0 ∷ negsuc 1845 ∷ negsuc 157208 ∷ negsuc 128753 ∷ negsuc 180 ∷ negsuc 74359
-          ∷ negsuc 130720 ∷ negsuc 57875 ∷ [];
+          pos 0 ∷ pos 0 ∷ negsuc 1844 ∷ negsuc 157207 ∷ negsuc 128754 ∷ negsuc 180 ∷ negsuc 74356
+          ∷ negsuc 130720 ∷ negsuc 57876 ∷ [];
     }
     ∷ record {
       bytes = 1 ∷ 0 ∷ 3 ∷ 0 ∷ 136 ∷ 19 ∷ 96 ∷ 234 ∷ 48 ∷ 9 ∷ 0 ∷ 2 ∷ 0 ∷ 1 ∷ 9 ∷ 0 ∷ [];
@@ -74,8 +74,8 @@ headers =
       number = 0;
       place = 2;
       samples =
-          pos 0 ∷ pos 0 ∷ pos 0 ∷ pos 15472 ∷ negsuc 141163 ∷ negsuc 144636 ∷ negsuc 15078
-          ∷ pos 11302 ∷ negsuc 43410 ∷ [];
+          pos 0 ∷ pos 0 ∷ pos 0 ∷ pos 15471 ∷ negsuc 141164 ∷ negsuc 144636 ∷ negsuc 15076
+          ∷ pos 11302 ∷ negsuc 43413 ∷ [];
     }
     ∷ record {
       bytes = 1 ∷ 0 ∷ 3 ∷ 0 ∷ 160 ∷ 15 ∷ 40 ∷ 35 ∷ 48 ∷ 9 ∷ 0 ∷ 2 ∷ 0 ∷ 1 ∷ 9 ∷ 0 ∷ [];
@@ -83,8 +83,8 @@ headers =
       number = 0;
       place = 2;
       samples =
-          pos 0 ∷ pos 0 ∷ pos 0 ∷ negsuc 1845 ∷ negsuc 157208 ∷ negsuc 128743 ∷ pos 1525
-          ∷ negsuc 273 ∷ negsuc 11149 ∷ [];
+          pos 0 ∷ pos 0 ∷ pos 0 ∷ negsuc 1844 ∷ negsuc 157207 ∷ negsuc 128744 ∷ pos 1525
+          ∷ negsuc 272 ∷ negsuc 11150 ∷ [];
     }
     ∷ record {
       bytes = 1 ∷ 2 ∷ 3 ∷ 0 ∷ 160 ∷ 15 ∷ 96 ∷ 234 ∷ [];
@@ -207,8 +207,8 @@ fields =
       number = 0;
       place = 4;
       samples =
-          pos 0 ∷ pos 0 ∷ pos 0 ∷ negsuc 1845 ∷ negsuc 157208 ∷ negsuc 128743 ∷ pos 1517
-          ∷ negsuc 1725 ∷ negsuc 74341 ∷ [];
+          pos 0 ∷ pos 0 ∷ pos 0 ∷ negsuc 1844 ∷ negsuc 157207 ∷ negsuc 128744 ∷ pos 1516
+          ∷ negsuc 1724 ∷ negsuc 74338 ∷ [];
     }
     ∷ record {
       bytes =
@@ -218,8 +218,8 @@ fields =
       number = 0;
       place = 4;
       samples =
-          pos 0 ∷ pos 0 ∷ pos 0 ∷ negsuc 1845 ∷ negsuc 157208 ∷ negsuc 128743 ∷ negsuc 1707
-          ∷ negsuc 74341 ∷ negsuc 130725 ∷ negsuc 58578 ∷ negsuc 35230 ∷ [];
+          pos 0 ∷ pos 0 ∷ pos 0 ∷ negsuc 1844 ∷ negsuc 157207 ∷ negsuc 128744 ∷ negsuc 1706
+          ∷ negsuc 74338 ∷ negsuc 130723 ∷ negsuc 58578 ∷ negsuc 35229 ∷ [];
     }
     ∷ record {
       bytes =
@@ -229,8 +229,8 @@ fields =
       number = 0;
       place = 4;
       samples =
-          pos 0 ∷ pos 0 ∷ pos 0 ∷ negsuc 1845 ∷ negsuc 157208 ∷ negsuc 128743 ∷ negsuc 12767
-          ∷ pos 5122 ∷ negsuc 59291 ∷ negsuc 130353 ∷ negsuc 77385 ∷ [];
+          pos 0 ∷ pos 0 ∷ pos 0 ∷ negsuc 1844 ∷ negsuc 157207 ∷ negsuc 128744 ∷ negsuc 12767
+          ∷ pos 5123 ∷ negsuc 59289 ∷ negsuc 130351 ∷ negsuc 77384 ∷ [];
     }
     ∷ record {
       bytes =
@@ -240,8 +240,8 @@ fields =
       number = 0;
       place = 4;
       samples =
-          pos 0 ∷ pos 0 ∷ pos 0 ∷ negsuc 1845 ∷ negsuc 157208 ∷ negsuc 128743 ∷ pos 6399
-          ∷ negsuc 59164 ∷ negsuc 131212 ∷ negsuc 66644 ∷ negsuc 22115 ∷ [];
+          pos 0 ∷ pos 0 ∷ pos 0 ∷ negsuc 1844 ∷ negsuc 157207 ∷ negsuc 128744 ∷ pos 6399
+          ∷ negsuc 59162 ∷ negsuc 131210 ∷ negsuc 66643 ∷ negsuc 22115 ∷ [];
     }
     ∷ record {
       bytes =
@@ -251,8 +251,8 @@ fields =
       number = 0;
       place = 4;
       samples =
-          pos 0 ∷ pos 0 ∷ pos 0 ∷ negsuc 1845 ∷ negsuc 128743 ∷ pos 1517 ∷ negsuc 1571
-          ∷ negsuc 60450 ∷ negsuc 57522 ∷ [];
+          pos 0 ∷ pos 0 ∷ pos 0 ∷ negsuc 1844 ∷ negsuc 128744 ∷ pos 1516 ∷ negsuc 1569
+          ∷ negsuc 60450 ∷ negsuc 57524 ∷ [];
     }
     ∷ record {
       bytes =
@@ -262,8 +262,8 @@ fields =
       number = 0;
       place = 4;
       samples =
-          pos 0 ∷ pos 0 ∷ pos 0 ∷ negsuc 1845 ∷ negsuc 141163 ∷ negsuc 144636 ∷ negsuc 14290
-          ∷ pos 4241 ∷ negsuc 52040 ∷ [];
+          pos 0 ∷ pos 0 ∷ pos 0 ∷ negsuc 1844 ∷ negsuc 141164 ∷ negsuc 144636 ∷ negsuc 14289
+          ∷ pos 4242 ∷ negsuc 52040 ∷ [];
     }
     ∷ record {
       bytes =
@@ -273,7 +273,7 @@ fields =
       number = 0;
       place = 4;
       samples =
-          pos 0 ∷ pos 0 ∷ pos 0 ∷ negsuc 1845 ∷ negsuc 144636 ∷ negsuc 14290 ∷ pos 4399
+          pos 0 ∷ pos 0 ∷ pos 0 ∷ negsuc 1844 ∷ negsuc 144636 ∷ negsuc 14289 ∷ pos 4400
           ∷ negsuc 59386 ∷ negsuc 78202 ∷ [];
     }
     ∷ record {
@@ -284,8 +284,8 @@ fields =
       number = 0;
       place = 4;
       samples =
-          pos 0 ∷ pos 0 ∷ pos 0 ∷ negsuc 1845 ∷ negsuc 157208 ∷ negsuc 128743 ∷ pos 1517
-          ∷ negsuc 1150 ∷ negsuc 24773 ∷ [];
+          pos 0 ∷ pos 0 ∷ pos 0 ∷ negsuc 1844 ∷ negsuc 157207 ∷ negsuc 128744 ∷ pos 1516
+          ∷ negsuc 1148 ∷ negsuc 24771 ∷ [];
     }
     ∷ record {
       bytes =
@@ -295,8 +295,8 @@ fields =
       number = 0;
       place = 4;
       samples =
-          pos 0 ∷ pos 0 ∷ pos 0 ∷ negsuc 1845 ∷ negsuc 157208 ∷ negsuc 128743 ∷ pos 1517
-          ∷ negsuc 3161 ∷ negsuc 196614 ∷ negsuc 229103 ∷ [];
+          pos 0 ∷ pos 0 ∷ pos 0 ∷ negsuc 1844 ∷ negsuc 157207 ∷ negsuc 128744 ∷ pos 1516
+          ∷ negsuc 3159 ∷ negsuc 196612 ∷ negsuc 229104 ∷ [];
     }
     ∷ record {
       bytes =
@@ -306,8 +306,8 @@ fields =
       number = 0;
       place = 4;
       samples =
-          pos 0 ∷ pos 0 ∷ pos 0 ∷ negsuc 1845 ∷ negsuc 157208 ∷ negsuc 128743 ∷ pos 1517
-          ∷ negsuc 3161 ∷ negsuc 195410 ∷ negsuc 129271 ∷ [];
+          pos 0 ∷ pos 0 ∷ pos 0 ∷ negsuc 1844 ∷ negsuc 157207 ∷ negsuc 128744 ∷ pos 1516
+          ∷ negsuc 3159 ∷ negsuc 195407 ∷ negsuc 129271 ∷ [];
     }
     ∷ record {
       bytes =
@@ -317,8 +317,8 @@ fields =
       number = 0;
       place = 4;
       samples =
-          pos 0 ∷ pos 0 ∷ pos 0 ∷ negsuc 1845 ∷ negsuc 157208 ∷ negsuc 128743 ∷ pos 1517
-          ∷ negsuc 3142 ∷ negsuc 196010 ∷ negsuc 315107 ∷ [];
+          pos 0 ∷ pos 0 ∷ pos 0 ∷ negsuc 1844 ∷ negsuc 157207 ∷ negsuc 128744 ∷ pos 1516
+          ∷ negsuc 3140 ∷ negsuc 196008 ∷ negsuc 315107 ∷ [];
     }
     ∷ record {
       bytes =
@@ -328,8 +328,8 @@ fields =
       number = 0;
       place = 4;
       samples =
-          pos 0 ∷ pos 0 ∷ pos 0 ∷ negsuc 1845 ∷ negsuc 157208 ∷ negsuc 128743 ∷ negsuc 157208
-          ∷ negsuc 128743 ∷ pos 1517 ∷ negsuc 995 ∷ negsuc 12464 ∷ [];
+          pos 0 ∷ pos 0 ∷ pos 0 ∷ negsuc 1844 ∷ negsuc 157207 ∷ negsuc 128744 ∷ negsuc 157207
+          ∷ negsuc 128744 ∷ pos 1516 ∷ negsuc 993 ∷ negsuc 12462 ∷ [];
     }
     ∷ record {
       bytes =
@@ -339,8 +339,8 @@ fields =
       number = 0;
       place = 4;
       samples =
-          pos 0 ∷ pos 0 ∷ pos 0 ∷ negsuc 1845 ∷ pos 1538 ∷ negsuc 2299 ∷ negsuc 121203 ∷ pos 418
-          ∷ negsuc 57196 ∷ [];
+          pos 0 ∷ pos 0 ∷ pos 0 ∷ negsuc 1844 ∷ pos 1538 ∷ negsuc 2298 ∷ negsuc 121203 ∷ pos 419
+          ∷ negsuc 57193 ∷ [];
     }
     ∷ record {
       bytes =
@@ -358,7 +358,7 @@ fields =
       room = 7;
       number = 16;
       place = 3;
-      samples = pos 0 ∷ pos 0 ∷ pos 0 ∷ negsuc 1845 ∷ negsuc 157208 ∷ negsuc 128743 ∷ [];
+      samples = pos 0 ∷ pos 0 ∷ pos 0 ∷ negsuc 1844 ∷ negsuc 157207 ∷ negsuc 128744 ∷ [];
     }
     ∷ []
 
@@ -470,7 +470,7 @@ refused =
       room = 4;
       number = 14;
       place = 2;
-      samples = pos 0 ∷ pos 0 ∷ pos 0 ∷ negsuc 1845 ∷ [];
+      samples = pos 0 ∷ pos 0 ∷ pos 0 ∷ negsuc 1844 ∷ [];
     }
     ∷ record {
       bytes =
@@ -479,7 +479,7 @@ refused =
       room = 7;
       number = 15;
       place = 2;
-      samples = pos 0 ∷ pos 0 ∷ pos 0 ∷ negsuc 1845 ∷ [];
+      samples = pos 0 ∷ pos 0 ∷ pos 0 ∷ negsuc 1844 ∷ [];
     }
     ∷ record {
       bytes =
@@ -488,7 +488,7 @@ refused =
       room = 7;
       number = 15;
       place = 2;
-      samples = pos 0 ∷ pos 0 ∷ pos 0 ∷ negsuc 1845 ∷ [];
+      samples = pos 0 ∷ pos 0 ∷ pos 0 ∷ negsuc 1844 ∷ [];
     }
     ∷ record {
       bytes =
@@ -497,7 +497,7 @@ refused =
       room = 7;
       number = 15;
       place = 2;
-      samples = pos 0 ∷ pos 0 ∷ pos 0 ∷ negsuc 1845 ∷ [];
+      samples = pos 0 ∷ pos 0 ∷ pos 0 ∷ negsuc 1844 ∷ [];
     }
     ∷ record {
       bytes =
@@ -506,7 +506,7 @@ refused =
       room = 5;
       number = 16;
       place = 2;
-      samples = pos 0 ∷ pos 0 ∷ pos 0 ∷ negsuc 1845 ∷ [];
+      samples = pos 0 ∷ pos 0 ∷ pos 0 ∷ negsuc 1844 ∷ [];
     }
     ∷ record {
       bytes =
@@ -515,7 +515,7 @@ refused =
       room = 6;
       number = 2;
       place = 2;
-      samples = pos 0 ∷ pos 0 ∷ pos 0 ∷ negsuc 1845 ∷ negsuc 157208 ∷ negsuc 128743 ∷ [];
+      samples = pos 0 ∷ pos 0 ∷ pos 0 ∷ negsuc 1844 ∷ negsuc 157207 ∷ negsuc 128744 ∷ [];
     }
     ∷ record {
       bytes =
@@ -524,7 +524,7 @@ refused =
       room = 7;
       number = 2;
       place = 2;
-      samples = pos 0 ∷ pos 0 ∷ pos 0 ∷ negsuc 1845 ∷ negsuc 157208 ∷ [];
+      samples = pos 0 ∷ pos 0 ∷ pos 0 ∷ negsuc 1844 ∷ negsuc 157207 ∷ [];
     }
     ∷ record {
       bytes =
@@ -533,7 +533,7 @@ refused =
       room = 7;
       number = 3;
       place = 2;
-      samples = pos 0 ∷ pos 0 ∷ pos 0 ∷ negsuc 1845 ∷ negsuc 157208 ∷ [];
+      samples = pos 0 ∷ pos 0 ∷ pos 0 ∷ negsuc 1844 ∷ negsuc 157207 ∷ [];
     }
     ∷ record {
       bytes =
@@ -542,7 +542,7 @@ refused =
       room = 9;
       number = 6;
       place = 3;
-      samples = pos 0 ∷ pos 0 ∷ pos 0 ∷ negsuc 1845 ∷ negsuc 157208 ∷ [];
+      samples = pos 0 ∷ pos 0 ∷ pos 0 ∷ negsuc 1844 ∷ negsuc 157207 ∷ [];
     }
     ∷ record {
       bytes =
@@ -551,7 +551,7 @@ refused =
       room = 9;
       number = 6;
       place = 3;
-      samples = pos 0 ∷ pos 0 ∷ pos 0 ∷ negsuc 1845 ∷ negsuc 157208 ∷ [];
+      samples = pos 0 ∷ pos 0 ∷ pos 0 ∷ negsuc 1844 ∷ negsuc 157207 ∷ [];
     }
     ∷ record {
       bytes =
@@ -560,7 +560,7 @@ refused =
       room = 9;
       number = 0;
       place = 4;
-      samples = pos 0 ∷ pos 0 ∷ pos 0 ∷ negsuc 1845 ∷ negsuc 157208 ∷ negsuc 128743 ∷ [];
+      samples = pos 0 ∷ pos 0 ∷ pos 0 ∷ negsuc 1844 ∷ negsuc 157207 ∷ negsuc 128744 ∷ [];
     }
     ∷ record {
       bytes =
@@ -569,7 +569,7 @@ refused =
       room = 7;
       number = 7;
       place = 2;
-      samples = pos 0 ∷ pos 0 ∷ pos 0 ∷ negsuc 1845 ∷ negsuc 157208 ∷ [];
+      samples = pos 0 ∷ pos 0 ∷ pos 0 ∷ negsuc 1844 ∷ negsuc 157207 ∷ [];
     }
     ∷ record {
       bytes =
@@ -578,7 +578,7 @@ refused =
       room = 7;
       number = 8;
       place = 2;
-      samples = pos 0 ∷ pos 0 ∷ pos 0 ∷ negsuc 1845 ∷ negsuc 157208 ∷ [];
+      samples = pos 0 ∷ pos 0 ∷ pos 0 ∷ negsuc 1844 ∷ negsuc 157207 ∷ [];
     }
     ∷ record {
       bytes =
@@ -587,7 +587,7 @@ refused =
       room = 7;
       number = 8;
       place = 2;
-      samples = pos 0 ∷ pos 0 ∷ pos 0 ∷ negsuc 1845 ∷ negsuc 157208 ∷ [];
+      samples = pos 0 ∷ pos 0 ∷ pos 0 ∷ negsuc 1844 ∷ negsuc 157207 ∷ [];
     }
     ∷ []
 

@@ -33,10 +33,10 @@ pub record Starred : Type 0 where
   pub d6145 : coefficients 2 6145 ≡ pos 26199 ∷ negsuc 1871 ∷ []
   pub d10240 : coefficients 2 10240 ≡ negsuc 18724 ∷ pos 3121 ∷ []
   pub d8192 : coefficients 2 8192 ≡ pos 0 ∷ pos 0 ∷ []
-  -- "Order 1, d 6,144, inputs 1,000, 0, 0, 0: −200, 960, 192, 38"
+  -- "Order 1, d 6,144, inputs 1,000, 0, 0, 0": "becomes −199, 961, 192, 38" (document 02, L7)
   pub allpass :
       outputs (coefficients 1 6144) (rest 1) (pos 1000 ∷ pos 0 ∷ pos 0 ∷ pos 0 ∷ [])
-      ≡ negsuc 199 ∷ pos 960 ∷ pos 192 ∷ pos 38 ∷ []
+      ≡ negsuc 198 ∷ pos 961 ∷ pos 192 ∷ pos 38 ∷ []
   -- "L 3, d 4,096, G 32,768, input 1,000 then zeros: 0, 0, 0, 0, 1000, 0, 0, 0, 250, 250": of order 1, which
   -- alone takes this d, and Na 0, since nothing changes
   pub loop :

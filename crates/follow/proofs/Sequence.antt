@@ -1,13 +1,12 @@
--- Calls one after the other: what two lists of them leave, put out and end with, and `then`.
+-- Calls one after the other: what two lists of them end with, and `then`.
 -- Assumes nothing.
-use mathlib.Core.Path.{_≡_, refl, sym, ap, _∙_}
+use mathlib.Core.Path.{_≡_, refl, sym}
 use mathlib.Core.Bool.{Bool, true, false, cond}
-use mathlib.Core.List.{List, [], _∷_, _++_, append-assoc, append-nil}
+use mathlib.Core.List.{List, [], _∷_, _++_, append-nil}
 use borrow.Author.Tests.{eq-eqb, ne-eqb, eqb-true, eqb-false}
 use lib.Dec.{eqb}
-use lib.IntN.{ℤ}
 use Rattle.rule.specs.Calls.{Call, number}
-use Rattle.rule.specs.State.{State, call, put, from, puts}
+use Rattle.rule.specs.State.{State, call, from}
 use Rattle.follow.specs.Follow.{result, then}
 
 -- ---- the number that ends them

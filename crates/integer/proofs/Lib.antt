@@ -1,5 +1,5 @@
 pub mod View
 pub mod Ring
 pub mod Rounding
-mod Halves
+pub mod Cut
 mod Quotient

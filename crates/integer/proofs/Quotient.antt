@@ -1,27 +1,26 @@
 -- The machine's division toward zero, and its remainder, which has the dividend's sign: the floor by the two.
 -- Assumes nothing.
-use mathlib.Core.Path.{_≡_, refl, sym, _∙_}
+use mathlib.Core.Path.{_≡_}
 use Prim.Native.Nat.{ℕ, suc, _+_, _*_, _/_, _%_, _<_}
 use native.Mathlib.Omega.{arith}
-use native.Mathlib.Nat.{div-add-mod', mod-lt, zero-div, div-le-self, lt-of-le-of-lt}
+use native.Mathlib.Nat.{div-add-mod', mod-lt, div-le-self, lt-of-le-of-lt}
 use lib.IntN.{ℤ, pos, negsuc, _-ℤ_, _*ℤ_}
 use lib.Signed.{_≤ℤ_, _<ℤ_, quotZ, remZ, mag-rem, mag-shr}
 use mir.Syntax.{Width}
 use mir.Val.{SFits}
 use Rattle.integer.specs.Parts.{up, dn}
 use Rattle.integer.specs.Rounding.{floor}
+use Rattle.integer.specs.Cut.{cut}
 use Rattle.integer.proofs.View.{+v, -v, *v, negv, vfit, fitv, Zs}
 use Rattle.integer.proofs.Ring.{times}
 use Rattle.integer.proofs.Rounding.{floor-only}
+use Rattle.integer.proofs.Cut.{cut-quot, cutv}
 
 -- ---- ranges
-quotv : (u : ℤ) (m : ℕ) → (up (quotZ u (pos m)) ≡ up u / m) × (dn (quotZ u (pos m)) ≡ dn u / m)
-quotv (pos a) m = (refl, sym (zero-div m))
-quotv (negsuc a) m = (negv (pos (suc a / m)) .0 ∙ sym (zero-div m), negv (pos (suc a / m)) .1)
-
 pub quot-fits : {w : Width} {z : ℤ} (m : ℕ) → SFits w z → SFits w (quotZ z (pos m))
 quot-fits {w} {z} m f =
-    vfit w (quotZ z (pos m)) (omega (arith, fitv f, quotv z m, div-le-self (up z) m, div-le-self (dn z) m))
+    rw (cut-quot z m)
+    (vfit w (cut z m) (omega (arith, fitv f, cutv z m, div-le-self (up z) m, div-le-self (dn z) m)))
 
 pub rem-fits : {w : Width} {z : ℤ} (m : ℕ) → SFits w z → SFits w (remZ z (pos m))
 rem-fits {w} {z} m f = record { sfits = lt-of-le-of-lt (mag-rem z (pos m)) (f .sfits) }

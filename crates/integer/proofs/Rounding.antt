@@ -10,7 +10,7 @@ use lib.Signed.{_≤ℤ_, _<ℤ_}
 use Rattle.integer.specs.Parts.{up, dn}
 use Rattle.integer.proofs.View.{+v, -v, *v, negv, absv, near, onev, Zs}
 use Rattle.integer.proofs.Ring.{times, abs-*}
-use Rattle.integer.specs.Rounding.{floor, Nearest, nearest, R, Q, M, clip}
+use Rattle.integer.specs.Rounding.{floor, Nearest, nearest, M, clip}
 
 -- ---- floor: its two parts, m q ≤ u and u < m q + m
 pub floorv : (u : ℤ) (m : ℕ) → 0 < m
@@ -27,7 +27,7 @@ pub floor-high : (u : ℤ) (m : ℕ) → 0 < m → u <ℤ (pos m *ℤ floor u m 
 floor-high u m h = omega (Zs, floorv u m h, *v (pos m) (floor u m), +v (pos m *ℤ floor u m) (pos m))
 
 -- m a < m b + m gives a ≤ b, by cases on b < a
-below : (m a b : ℕ) → 0 < m → m * a < m * b + m → a ≤ b
+pub below : (m a b : ℕ) → 0 < m → m * a < m * b + m → a ≤ b
 below m a b h k = go (decLt b a)
   where
     go : Dec (b < a) → a ≤ b
@@ -104,27 +104,6 @@ nearest-abs p P q Q g h l =
     let b = near z {B = 2 * P + q} (omega (Zs, v, *v (pos 2) p, +v z (pos (2 * q)), absv p)) in
     le-div-iff-mul-le {k = 2 * Q} {x = natAbs A} (omega arith) .1
     (lowered (natAbs A) P q Q l (rw abs-* at b))
-
--- ---- R
-pub Rv : (u : ℤ)
-    → (65536 * up (R u) + dn u ≤ up u + 65536 * dn (R u) + 32768)
-    × (up u + 65536 * dn (R u) < 65536 * up (R u) + dn u + 32768)
-unfolding R
-Rv u = omega (arith, floorv (u +ℤ pos 32768) 65536 (omega arith), +v u (pos 32768))
-
-pub R-abs : (u : ℤ) (B : ℕ) → natAbs u ≤ 65536 * B → natAbs (R u) ≤ B
-R-abs u B h = near (R u) (omega (arith, Rv u, absv u))
-
--- numbers at most 32,768 E apart are rounded to numbers at most half of E apart, upward
-pub R-near : (u v : ℤ) (E : ℕ) → natAbs (u -ℤ v) ≤ 32768 * E → natAbs (R u -ℤ R v) ≤ (E + 1) / 2
-R-near u v E h = near (R u -ℤ R v) (omega (arith, Rv u, Rv v, -v u v, absv (u -ℤ v), -v (R u) (R v)))
-
--- ---- Q
-pub Q-abs : (u : ℤ) (B : ℕ) → natAbs u ≤ 131072 * B → natAbs (Q u) ≤ B
-unfolding Q
-Q-abs u B h =
-    let s = u +ℤ pos 65536 in
-    near (Q u) (omega (arith, floorv s 131072 (omega arith), +v u (pos 65536), absv u))
 
 -- ---- clip
 pub clipv : (u : ℤ) → (up (clip u) ≡ min (up u) M) × (dn (clip u) ≡ min (dn u) M)

@@ -1,2 +1,4 @@
 pub mod Parts
 pub mod Rounding
+pub mod Cut
+pub mod Toward

@@ -1,4 +1,4 @@
--- Floor division, rounding and clipping of whole numbers, as document 01 has them.
+-- Floor division, rounding to the nearest and clipping of whole numbers, as document 01 has them.
 -- Definitions alone: proofs/Rounding.antt has their laws. Assumes nothing.
 use Prim.Native.Nat.{ℕ, suc, _*_, _/_, min}
 use lib.IntN.{ℤ, pos, negsuc, negℤ, _+ℤ_, _*ℤ_}
@@ -17,14 +17,6 @@ pub record Nearest (p : ℤ) (q : ℕ) (A : ℤ) : Type 0 where
 -- that number: the one that is `Nearest`, where q is above 0
 unfoldable pub nearest : ℤ → ℕ → ℤ
 nearest p q = floor (pos 2 *ℤ p +ℤ pos q) (2 * q)
-
--- "R(u) is the whole part, downward, of (u + 32,768)/65,536"
-unfoldable pub R : ℤ → ℤ
-R u = floor (u +ℤ pos 32768) 65536
-
--- the division of the loop, document 01's "floor((u + 65,536)/131,072)" with u for G·(y(n) + y(n − 1))
-unfoldable pub Q : ℤ → ℤ
-Q u = floor (u +ℤ pos 65536) 131072
 
 -- "M = 8,388,607. A sample is a whole number from −M to M"
 abbrev pub M : ℕ

@@ -1,9 +1,10 @@
-// Signed whole numbers: clipping, floor division and rounding built on truncating division, wrapping product.
+// Signed whole numbers: clipping, division toward zero, floor division and rounding built on it, wrapping product.
 // A signed number goes between functions in a struct, so that a contract reads the number and not its bits.
 ghost use mathlib.Core.Path.{_≡_};
 ghost use Prim.Native.Nat.{_+_, _*_, _%_, _^_, _≤_, _<_};
 ghost use lib.IntN.{natAbs};
-ghost use Rattle.integer.specs.Rounding.{R, Q, clip as Clip, floor, nearest as Nearest};
+ghost use Rattle.integer.specs.Rounding.{clip as Clip, floor, nearest as Nearest};
+ghost use Rattle.integer.specs.Cut.{R, Q};
 
 pub struct Value {
     pub n: i64,
@@ -35,43 +36,18 @@ pub fn floor_div(u: Value, m: u64) -> Value
     Value { n: q }
 }
 
-// u / 65,536 downward, as `floor_div` has it, with the divisor as a literal: the compiler makes one
-// arithmetic shift of it, and of `floor_div` at 65,536 it does not.
-fn floor_q16(u: Value) -> Value
-    ensures { λ r. ⌜ r .n ≡ floor (u .n) 65536 ⌝ }
-{
-    let q = u.n / 65_536;
-    if u.n % 65_536 < 0 {
-        return Value { n: q - 1 };
-    }
-    Value { n: q }
-}
-
-// R(u): u / 65,536 to the nearest, a half upward.
-pub fn round_q16(u: Value) -> Value
-    requires { ⌜ natAbs (u .n) ≤ 2 ^ 39 ⌝ }
+// R(u): u / 65,536 cut toward zero.
+pub fn cut_q16(u: Value) -> Value
     ensures { λ r. ⌜ r .n ≡ R (u .n) ⌝ }
 {
-    floor_q16(Value { n: u.n + 32_768 })
+    Value { n: u.n / 65_536 }
 }
 
-// u / 131,072 downward, one arithmetic shift like `floor_q16`.
-fn floor_q17(u: Value) -> Value
-    ensures { λ r. ⌜ r .n ≡ floor (u .n) 131072 ⌝ }
-{
-    let q = u.n / 131_072;
-    if u.n % 131_072 < 0 {
-        return Value { n: q - 1 };
-    }
-    Value { n: q }
-}
-
-// Q(u), the division of the loop: u / 131,072 to the nearest, a half upward.
-pub fn round_q17(u: Value) -> Value
-    requires { ⌜ natAbs (u .n) ≤ 2 ^ 41 ⌝ }
+// Q(u), the division of the loop: u / 131,072 cut toward zero.
+pub fn cut_q17(u: Value) -> Value
     ensures { λ r. ⌜ r .n ≡ Q (u .n) ⌝ }
 {
-    floor_q17(Value { n: u.n + 65_536 })
+    Value { n: u.n / 131_072 }
 }
 
 // p / q to the nearest, a half upward.

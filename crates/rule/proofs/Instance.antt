@@ -6,7 +6,8 @@ use Prim.Native.Nat.{ℕ, zero, suc, _<_}
 use native.Mathlib.Omega.{arith}
 use lib.IntN.{pos, negsuc}
 use lib.ListN.{getD}
-use Rattle.integer.specs.Rounding.{R, Q, clip, floor, nearest}
+use Rattle.integer.specs.Rounding.{clip, floor, nearest}
+use Rattle.integer.specs.Cut.{cut, R, Q}
 use Rattle.thiran.specs.Formula.{a, factor}
 use Rattle.thiran.specs.Coefficients.{coefficient, coefficients}
 use Rattle.allpass.specs.Allpass.{inner, next, out}
@@ -34,9 +35,9 @@ abbrev t : Tuning
 t = record { N = 2; L = 1; d = 9159 }
 
 -- what is written: the new filter reads 0 before step 2, and 5,000 at step 3
-line : after o cs .s ≡ pos 0 ∷ pos 0 ∷ pos 5000 ∷ pos 7 ∷ negsuc 326 ∷ pos 1910 ∷ pos 2614 ∷ []
+line : after o cs .s ≡ pos 0 ∷ pos 0 ∷ pos 5000 ∷ pos 7 ∷ negsuc 325 ∷ pos 1910 ∷ pos 2612 ∷ []
 unfolding read call step number opened done stepped settled output written Q noise spent coefficients
-    coefficient a factor nearest floor R clip inner next out
+    coefficient a factor nearest floor cut R clip inner next out
 line = refl
 
 quiet : (i : ℕ) → i < 2 → read (after o cs .s) i 1 ≡ pos 0

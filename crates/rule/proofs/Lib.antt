@@ -29,4 +29,8 @@ mod Twins
 pub mod Withdrawn
 pub mod Sample
 pub mod Plucks
+mod Loop
+mod Fade
+mod Fading
+pub mod Silence
 mod Instance

@@ -22,6 +22,7 @@ pub length-out : (v : State) (xs : List ℤ) → length (blockOut v xs) ≡ leng
 length-out v [] = refl
 length-out v (x ∷ xs) = ap suc (length-out (step v x) xs)
 
+-- ---- calls one after the other
 pub from-append : (v : State) (cs ds : List Call) → from v (cs ++ ds) ≡ from (from v cs) ds
 from-append v [] ds = refl
 from-append v (c ∷ cs) ds = from-append (call v c) cs ds

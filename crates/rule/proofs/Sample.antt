@@ -9,7 +9,7 @@ use native.Mathlib.Decide.{ℕ-discrete}
 use lib.IntN.{ℤ, pos}
 use lib.ListN.{getD, List·getD-append}
 use lib.Seq.{getD-at}
-use Rattle.integer.specs.Rounding.{Q}
+use Rattle.integer.specs.Cut.{Q}
 use Rattle.rule.specs.Voice.{announced, Waiting, output, written}
 use Rattle.rule.specs.Calls.{Call, Opening}
 use Rattle.rule.specs.History.{History, steps, ago, step, after}

@@ -7,7 +7,8 @@ use mathlib.Core.Option.{none, some}
 use Prim.Native.Nat.{ℕ, suc, _+_, _-_, _≤_, _<_, min}
 use lib.IntN.{ℤ, pos, _+ℤ_, _*ℤ_}
 use lib.ListN.{length, take, getD}
-use Rattle.integer.specs.Rounding.{clip, floor}
+use Rattle.integer.specs.Rounding.{clip}
+use Rattle.integer.specs.Cut.{cut}
 use Rattle.allpass.specs.Allpass.{next, out}
 use Rattle.rule.specs.Voice.{Tuning, Kind, announced, asked, Waiting, Voice, A, noise, spent}
 use Rattle.rule.specs.Calls.{Call, block, loss, pluck, announce, ask, prepare, instant, commit, withdraw}
@@ -96,10 +97,11 @@ module _ (h : History) (x : ℤ) where
   pub record Sample : Type 0 where
     -- "1. f = s(n − L). The filter gives the output y(n)"
     pub output : y n ≡ out (A (v .tuning)) (v .state) (read (h .s) n (v .tuning .L))
-    -- "3. s(n) = clip(p(n) + floor((G·(y(n) + y(n − 1)) + 65,536)/131,072)), where y(−1) = 0"
+    -- "3. s(n) = clip(p(n) + G·(y(n) + y(n − 1))/131,072), where y(−1) = 0", with "the loop's division" cut
+    -- "toward zero instead of rounding" (document 02, L7)
     pub sample :
         s n
-        ≡ clip (p +ℤ floor (pos (v .G) *ℤ (y n +ℤ read (h .y) n 1) +ℤ pos 65536) 131072)
+        ≡ clip (p +ℤ cut (pos (v .G) *ℤ (y n +ℤ read (h .y) n 1)) 131072)
     -- "4. s(n) goes into the line", behind those before it
     pub more : steps (step h x) ≡ suc n
     pub before : (i : ℕ) → i < n → (s i ≡ getD (h .s) i (pos 0)) × (y i ≡ getD (h .y) i (pos 0))

@@ -11,3 +11,4 @@ pub mod Click
 pub mod Demands
 pub mod Asked
 pub mod Literals
+pub mod Silence

@@ -6,7 +6,8 @@ use mathlib.Core.Option.{Option, none, some}
 use Prim.Native.Nat.{ℕ, suc, _-_, min}
 use lib.Dec.{leb, eqb}
 use lib.IntN.{ℤ, pos, _+ℤ_, _*ℤ_}
-use Rattle.integer.specs.Rounding.{clip, Q}
+use Rattle.integer.specs.Rounding.{clip}
+use Rattle.integer.specs.Cut.{Q}
 use Rattle.thiran.specs.Coefficients.{coefficients}
 use Rattle.allpass.specs.Allpass as Filter
 use Rattle.allpass.specs.Allpass.{next, out}
@@ -85,8 +86,8 @@ abbrev pub fedToo : ℕ → Option Waiting → (ℕ → ℤ) → Option Waiting
 fedToo Na none r = none
 fedToo Na (some w) r = some (fed Na w r)
 
--- "3. s(n) = clip(p(n) + floor((G·(y(n) + y(n − 1)) + 65,536)/131,072))": p(n) is the input plus the noise,
--- and Q is the loop's division
+-- "3. s(n) = clip(p(n) + G·(y(n) + y(n − 1))/131,072)", the quotient cut toward zero (document 02, L7): p(n) is
+-- the input plus the noise, and Q is the loop's division
 unfoldable pub written : Voice → (ℕ → ℤ) → ℤ → ℤ
 written v r x =
     clip ((x +ℤ noise (v .pluck)) +ℤ Q (pos (v .G) *ℤ (output v r +ℤ v .last)))

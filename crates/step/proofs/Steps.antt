@@ -5,7 +5,8 @@ use mathlib.Core.List.{List, _∷_}
 use Prim.Native.Nat.{ℕ, _≤_}
 use lib.IntN.{ℤ, pos, _+ℤ_, _*ℤ_}
 use lib.ListN.{take}
-use Rattle.integer.specs.Rounding.{M, Q}
+use Rattle.integer.specs.Rounding.{M}
+use Rattle.integer.specs.Cut.{Q}
 use Rattle.integer.proofs.Rounding.{clip-abs}
 use Rattle.allpass.specs.Bounds.{Within, more}
 use Rattle.line.specs.Ring.{ring}

@@ -5,7 +5,8 @@ use mathlib.Core.List.{List, _∷_}
 use Prim.Native.Nat.{ℕ, _≤_, _<_, _^_}
 use lib.IntN.{ℤ, pos, natAbs, _+ℤ_, _*ℤ_}
 use lib.ListN.{take}
-use Rattle.integer.specs.Rounding.{M, clip, Q}
+use Rattle.integer.specs.Rounding.{M, clip}
+use Rattle.integer.specs.Cut.{Q}
 use Rattle.allpass.specs.Allpass.{next, out, run}
 use Rattle.line.specs.Ring.{ring}
 use Rattle.rule.specs.Voice.{A, noise, spent, fedToo, settled}

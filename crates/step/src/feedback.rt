@@ -3,7 +3,8 @@
 ghost use mathlib.Core.Path.{_≡_};
 ghost use Prim.Native.Nat.{_≤_, _<_, _^_};
 ghost use lib.IntN.{pos, natAbs, _+ℤ_, _*ℤ_};
-ghost use Rattle.integer.specs.Rounding.{M, Q, clip as Clip};
+ghost use Rattle.integer.specs.Rounding.{M, clip as Clip};
+ghost use Rattle.integer.specs.Cut.{Q};
 ghost use Rattle.allpass.specs.Bounds.{Within};
 ghost use Rattle.line.specs.Ring.{ring};
 ghost use Rattle.voice.specs.Valid.{Tuned};
@@ -11,7 +12,7 @@ ghost use Rattle.step.specs.Sample.{Circulates};
 use crate::filter::hear;
 use integer::Value;
 use integer::clip;
-use integer::round_q17;
+use integer::cut_q17;
 use voice::Filter;
 
 // at is the place of the next sample.
@@ -21,13 +22,13 @@ pub struct Circulated {
     pub at: usize,
 }
 
-// What the loop brings back: G·(y(n) + y(n − 1)), divided.
+// What the loop brings back: G·(y(n) + y(n − 1)), cut toward zero.
 fn looped(loss: u32, y: Value, last: Value) -> Value
     requires { ⌜ (loss ≤ 65535) × (natAbs (y .n) ≤ M) × (natAbs (last .n) ≤ M) ⌝ }
     ensures { λ r. ⌜ (r .n ≡ Q (pos loss *ℤ (y .n +ℤ last .n))) × (natAbs (r .n) ≤ M) ⌝ }
 {
     let g = loss as i64;
-    round_q17(Value {
+    cut_q17(Value {
         n: g * (y.n + last.n),
     })
 }

@@ -1,4 +1,4 @@
--- |A1| + .. + |AN| is at most 32,768, of every order N and delay d that N takes: computed at each 64th d.
+-- |A1| + .. + |AN| is below 32,768, of every order N and delay d that N takes: computed at each 64th d.
 -- Assumes nothing.
 use mathlib.Core.Path.{_≡_, subst}
 use mathlib.Core.Bool.{Bool, true, _&&_}
@@ -80,19 +80,22 @@ every-at (suc n) p t i h =
 
 -- one test, computed at each 64th delay of every order
 fits : ℕ → ℕ → Bool
-fits N i = leb (bounds N (lowest N + 64 * i) 1 N) 32768
+fits N i = leb (bounds N (lowest N + 64 * i) 1 N) 32767
 
 all-fit : T (every orders (λ n. every 64 (fits (suc n))))
 unfolding fits
 all-fit = tt
 
-pub norm-coefficients : (N d : ℕ) → Takes N d → norm (coefficients N d) ≤ 32768
+pub norm-below : (N d : ℕ) → Takes N d → norm (coefficients N d) < 32768
 unfolding fits coefficients
-norm-coefficients zero d t = absurd (omega (arith, t .least))
-norm-coefficients (suc n) d t =
+norm-below zero d t = absurd (omega (arith, t .least))
+norm-below (suc n) d t =
     let N = suc n in
     let i = (d - lowest N) / 64 in
     let c = lowest N + 64 * i in
     let f = every-at orders (λ m. every 64 (fits (suc m))) all-fit n (t .most) in
-    let b = leb→le (bounds N c 1 N) 32768 (every-at 64 (fits N) f i (omega arith)) in
+    let b = leb→le (bounds N c 1 N) 32767 (every-at 64 (fits N) f i (omega arith)) in
     omega (arith, norm-bounds N c d (omega arith) (omega arith) (omega arith) 1 N (omega arith))
+
+pub norm-coefficients : (N d : ℕ) → Takes N d → norm (coefficients N d) ≤ 32768
+norm-coefficients N d t = omega (arith, norm-below N d t)

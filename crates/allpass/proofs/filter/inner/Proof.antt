@@ -8,7 +8,7 @@ use lib.IntN.{ℤ}
 use mir.Syntax.{w64}
 use mir.Val.{SFits, toZ, ofZ}
 use mir.Facts.{toZ-ofZ}
-use Rattle.integer.specs.Rounding.{R}
+use Rattle.integer.specs.Cut.{R}
 use Rattle.integer.proofs.View.{abs-fits, read}
 use Rattle.thiran.specs.Answers.{taps}
 use Rattle.allpass.specs.Allpass.{dot, inner}

@@ -9,7 +9,7 @@ use lib.IntN.{ℤ, pos, _+ℤ_}
 use mir.Syntax.{w64}
 use mir.Val.{SFits, toZ, ofZ}
 use mir.Facts.{toZ-ofZ}
-use Rattle.integer.specs.Rounding.{R}
+use Rattle.integer.specs.Cut.{R}
 use Rattle.integer.proofs.View.{abs-fits, read}
 use Rattle.integer.proofs.Ring.{abs-+}
 use Rattle.thiran.specs.Answers.{taps}

@@ -12,7 +12,7 @@ use Rattle.allpass.specs.Bounds.{Within}
 use Rattle.allpass.specs.Stored.{held}
 use Rattle.allpass.specs.declared.State.{State}
 use Rattle.allpass.proofs.Bounds.{tail-within}
-use Rattle.allpass.proofs.Sums.{times, z, fits, small, sum-fits, sum-1, rest-2, sum-2}
+use Rattle.allpass.proofs.Sums.{times, z, fits, sum-fits, sum-1, rest-2, sum-2}
 use Rattle.allpass.proofs.Sums.{last-3, rest-3, sum-3}
 use Rattle.allpass.proofs.filter.weighed.Statement.{statement}
 use Rattle.allpass.proofs.filter.weighed.Tie as tie
@@ -44,15 +44,13 @@ mul-t5 c =
     let t = c .before .before .before .before in
     fits (c-1 t .a1) (v-1 t .v1) [] [] (n-1 t) (h-1 t)
 
-round-q16-requires : tie.Need-round-q16-requires
-round-q16-requires c κs =
-    let t = c .before .before .before .before in
-    rw (sum-1 (c-1 t) (v-1 t) (n-1 t) (h-1 t)) (small (c-1 t .a1) (v-1 t .v1) [] [] (n-1 t) (h-1 t))
+cut-q16-requires : tie.Need-cut-q16-requires
+cut-q16-requires c κs = tt
 
 returns : tie.Need-returns
 returns c =
     let t = c .before .before .before .before .before in
-    rw (t .if1 .taken) (rw (sum-1 (c-1 t) (v-1 t) (n-1 t) (h-1 t)) at (c .round-q16 .ensures))
+    rw (t .if1 .taken) (rw (sum-1 (c-1 t) (v-1 t) (n-1 t) (h-1 t)) at (c .cut-q16 .ensures))
 
 -- ---- order 2
 module _ (t : tie.Then2) where
@@ -88,16 +86,13 @@ add-t9 c =
     sum-fits (c-2 t .a1) (v-2 t .v1) (c-2 t .a2 ∷ []) (v-2 t .v2 ∷ []) (n-2 t) (h-2 t)
     (times (c-2 t .a2) (v-2 t .v2)) (rest-2 (c-2 t) (v-2 t) (n-2 t) (h-2 t))
 
-round-q16-requires-2 : tie.Need-round-q16-requires-2
-round-q16-requires-2 c κs =
-    let t = then-2 c in
-    rw (sum-2 (c-2 t) (v-2 t) (n-2 t) (h-2 t))
-    (small (c-2 t .a1) (v-2 t .v1) (c-2 t .a2 ∷ []) (v-2 t .v2 ∷ []) (n-2 t) (h-2 t))
+cut-q16-requires-2 : tie.Need-cut-q16-requires-2
+cut-q16-requires-2 c κs = tt
 
 returns-2 : tie.Need-returns-2
 returns-2 c =
     let t = then-2 (c .before) in
-    rw (t .if2 .taken) (rw (sum-2 (c-2 t) (v-2 t) (n-2 t) (h-2 t)) at (c .round-q162 .ensures))
+    rw (t .if2 .taken) (rw (sum-2 (c-2 t) (v-2 t) (n-2 t) (h-2 t)) at (c .cut-q162 .ensures))
 
 -- ---- order 3
 module _ (t : tie.Else2) where
@@ -151,34 +146,30 @@ add-t15 c =
     sum-fits (c-3 t .a1) (v-3 t .v1) (c-3 t .a2 ∷ c-3 t .a3 ∷ []) (v-3 t .v2 ∷ v-3 t .v3 ∷ []) (n-3 t) (h-3 t)
     (z (c-3 t) (v-3 t) (n-3 t) (h-3 t)) (rest-3 (c-3 t) (v-3 t) (n-3 t) (h-3 t))
 
-round-q16-requires-3 : tie.Need-round-q16-requires-3
-round-q16-requires-3 c κs =
-    let t = else-3 c in
-    let A = c-3 t .a2 ∷ c-3 t .a3 ∷ [] in
-    rw (sum-3 (c-3 t) (v-3 t) (n-3 t) (h-3 t))
-    (small (c-3 t .a1) (v-3 t .v1) A (v-3 t .v2 ∷ v-3 t .v3 ∷ []) (n-3 t) (h-3 t))
+cut-q16-requires-3 : tie.Need-cut-q16-requires-3
+cut-q16-requires-3 c κs = tt
 
 returns-3 : tie.Need-returns-3
 returns-3 c =
     let t = else-3 (c .before) in
-    rw (three t) (rw (sum-3 (c-3 t) (v-3 t) (n-3 t) (h-3 t)) at (c .round-q163 .ensures))
+    rw (three t) (rw (sum-3 (c-3 t) (v-3 t) (n-3 t) (h-3 t)) at (c .cut-q163 .ensures))
 
 pub weighed-spec : {M : Type 1} → statement M
 weighed-spec =
     tie.close
     (tie.spec
     mul-t5
-    round-q16-requires
+    cut-q16-requires
     returns
     mul-t7
     mul-t8
     add-t9
-    round-q16-requires-2
+    cut-q16-requires-2
     returns-2
     mul-t11
     mul-t12
     mul-t13
     add-t14
     add-t15
-    round-q16-requires-3
+    cut-q16-requires-3
     returns-3)

@@ -12,7 +12,7 @@ use mir.ValLaws.{toZ-pos}
 use Rattle.integer.specs.Rounding.{M}
 use Rattle.integer.proofs.View.{abs-fits}
 use Rattle.integer.proofs.Ring.{abs-*, abs-+}
-use Rattle.integer.proofs.Rounding.{Q-abs}
+use Rattle.integer.proofs.Cut.{Q-abs}
 use Rattle.step.proofs.Machine.{back, kept, terms}
 use Rattle.step.proofs.feedback.looped.Statement.{statement}
 use Rattle.step.proofs.feedback.looped.Tie as tie
@@ -57,14 +57,14 @@ add-t5 c = let s = start c in rw (sum s) (abs-fits w64 (y s +ℤ l s) (omega (ar
 mul-t6 : tie.Need-mul-t6
 mul-t6 c = let s = start c in rw (product s) (abs-fits w64 (u s) (omega (arith, u-small s)))
 
-round-q17-requires : tie.Need-round-q17-requires
-round-q17-requires c κs = rw (whole (start c)) (omega (arith, u-small (start c)))
+cut-q17-requires : tie.Need-cut-q17-requires
+cut-q17-requires c κs = tt
 
 returns : tie.Need-returns
 returns c =
     let s = start (c .before) in
-    let e = rw (whole s) at (c .round-q17 .ensures) in
-    (e, rw e (Q-abs (u s) M (omega (arith, u-small s))))
+    let e = rw (whole s) at (c .cut-q17 .ensures) in
+    (e, rw e (omega (arith, Q-abs (u s), u-small s)))
 
 pub looped-spec : {M : Type 1} → statement M
-looped-spec = tie.close (tie.spec cast-g add-t5 mul-t6 round-q17-requires returns)
+looped-spec = tie.close (tie.spec cast-g add-t5 mul-t6 cut-q17-requires returns)
