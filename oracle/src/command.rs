@@ -17,6 +17,9 @@ pub const FILE_LIMIT: u32 = 16_384;
 /// `wavread ROOM B1 B2 ..`: "and 4,096 samples".
 pub const READ_LIMIT: u32 = 4_096;
 
+/// "bytes of a line, without its line feed".
+pub const LINE_BYTES: usize = 1_048_576;
+
 /// One line of the console's input, understood.
 #[derive(Clone, Debug)]
 pub enum Command {
@@ -32,10 +35,11 @@ pub enum Command {
     Line { count: usize },
     WavWrite { rate: u32, places: usize, samples: Vec<i32> },
     WavRead { places: usize, bytes: Vec<u8> },
+    Help,
 }
 
 /// The words of a line: "separated by spaces or tabs; `#` starts a comment (to end of line)".
-fn words(line: &[u8]) -> Vec<&[u8]> {
+pub fn words(line: &[u8]) -> Vec<&[u8]> {
     let text = line.split(|byte| *byte == b'#').next().unwrap_or(line);
     text.split(|byte| matches!(byte, b' ' | b'\t')).filter(|word| !word.is_empty()).collect()
 }
@@ -152,6 +156,7 @@ fn command(name: &[u8], rest: &[&[u8]]) -> Option<Command> {
         b"run" => run(rest),
         b"wavwrite" => wav_write(rest),
         b"wavread" => wav_read(rest),
+        b"help" => rest.is_empty().then_some(Command::Help),
         b"state" => rest.is_empty().then_some(Command::State),
         b"line" => match rest {
             [count] => places(count, LINE_LIMIT).map(|count| Command::Line { count }),
@@ -161,13 +166,28 @@ fn command(name: &[u8], rest: &[&[u8]]) -> Option<Command> {
     }
 }
 
+/// The lines of a text, `None` for one that is too long. "A carriage return before the line feed is dropped": what
+/// follows the last line feed has none behind it, and keeps its own.
+pub fn lines(text: &[u8]) -> Vec<Option<&[u8]>> {
+    let mut lines: Vec<&[u8]> = text.split(|byte| *byte == b'\n').collect();
+    let last = lines.pop();
+    let ended = lines.into_iter().map(|line| (line, line.strip_suffix(b"\r").unwrap_or(line)));
+    let all = ended.chain(last.map(|line| (line, line)));
+    all.map(|(line, bare)| (line.len() <= LINE_BYTES).then_some(bare)).collect()
+}
+
 /// The commands of a text with their line numbers from 1. "empty lines are passed over"; a line
 /// that is no command has `None`.
 pub fn commands(text: &[u8]) -> Vec<(usize, Option<Command>)> {
     let mut found = Vec::new();
-    for (index, line) in text.split(|byte| *byte == b'\n').enumerate() {
-        if let Some((name, rest)) = words(line).split_first() {
-            found.push((index + 1, command(name, rest)));
+    for (index, line) in lines(text).into_iter().enumerate() {
+        match line.map(words) {
+            None => found.push((index + 1, None)),
+            Some(words) => {
+                found.extend(
+                    words.split_first().map(|(name, rest)| (index + 1, command(name, rest))),
+                );
+            }
         }
     }
     found

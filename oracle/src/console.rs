@@ -2,7 +2,8 @@
 
 use crate::allpass::effective_length;
 use crate::call::{Call, UNTOUCHED};
-use crate::command::{commands, Command};
+use crate::command::{commands, lines, Command};
+use crate::expected::{expected, help};
 use crate::noise::draw;
 use crate::note::note;
 use crate::record::read_record;
@@ -153,19 +154,24 @@ impl Console {
             Command::WavRead { places, bytes } => answer_wav_read(*places, bytes),
             Command::State => self.answer_state(),
             Command::Line { count } => self.answer_line(*count),
+            Command::Help => help(),
         }
     }
 }
 
-/// What the console prints for a text: one answer to each line that is not empty, `error LINE` for
-/// a line that is no command.
+/// What the console prints for a text: one answer to each line that is not empty, `error LINE` and
+/// what was expected for a line that is no command.
 pub fn answers(text: &[u8]) -> String {
     let mut console = Console::default();
     let mut printed = String::new();
+    let lines = lines(text);
     for (line, command) in commands(text) {
         match command {
             Some(command) => printed.push_str(&console.answer(&command)),
-            None => printed.push_str(&format!("error {line}")),
+            None => {
+                let expected = expected(lines[line - 1]);
+                printed.push_str(&format!("error {line} {expected}"));
+            }
         }
         printed.push('\n');
     }

@@ -11,6 +11,7 @@ pub mod click;
 pub mod command;
 pub mod compare;
 pub mod console;
+pub mod expected;
 pub mod figures;
 pub mod natural;
 pub mod noise;

@@ -61,9 +61,56 @@ fn routines() {
 fn lines_that_are_not_right() {
     let text = "\n# nothing\nopen 1 2 3\n \t\nstate # yes\nblock 1 +1\nblock 1 -\nline 2113\n\
                 block 4097\nrun 16385\nrecord 1\ndraw 4294967296\nDraw 1\ncommit 1\n\
-                withdraw 0\nask 3\nloss 007";
-    let expected =
-        "error 3\nstate 1 1 4096 0 0 0 0 0 0 0 0 0 0 0 0 0 0 0 0\nerror 6\nerror 7\nerror 8\n\
-                    error 9\nerror 10\nerror 11\nerror 12\nerror 13\nerror 14\nerror 15\nerror 16\nloss 0\n";
+                withdraw 0\nask 3\nwavread\nhelp 1\nloss 007";
+    let expected = "error 3 open takes N L D G NA\n\
+                    state 1 1 4096 0 0 0 0 0 0 0 0 0 0 0 0 0 0 0 0\n\
+                    error 6 block takes OUT X1 X2 .. (at most 4096 each)\n\
+                    error 7 block takes OUT X1 X2 .. (at most 4096 each)\n\
+                    error 8 line takes K (at most 2112)\n\
+                    error 9 block takes OUT X1 X2 .. (at most 4096 each)\n\
+                    error 10 run takes OUT B1 B2 .. (OUT at most 16384)\n\
+                    error 11 record takes B1 B2 ..\n\
+                    error 12 draw takes STATE\n\
+                    error 13 no call has this name: help lists them\n\
+                    error 14 commit takes nothing\n\
+                    error 15 withdraw takes nothing\n\
+                    error 16 ask takes L D\n\
+                    error 17 wavread takes ROOM B1 B2 .. (ROOM at most 4096)\n\
+                    error 18 help takes nothing\n\
+                    loss 0\n";
     assert_eq!(answers(text.as_bytes()), expected);
+}
+
+#[test]
+fn carriage_returns() {
+    let text = b"loss 1\r\n\r\nloss\r1\nloss 1\r\r\n# \r\nhelp\r";
+    let expected = "loss 0\nerror 3 no call has this name: help lists them\nerror 4 loss takes G\n\
+                    error 6 no call has this name: help lists them\n";
+    assert_eq!(answers(text), expected);
+}
+
+#[test]
+fn long_lines() {
+    let line = |blanks: usize, end: &str| format!("loss 1{}{end}", " ".repeat(blanks));
+    let most = 1_048_576 - 6;
+    for (text, expected) in [
+        (line(most, "\nloss 2"), "loss 0\nloss 0\n"),
+        (line(most - 1, "\r\nloss 2"), "loss 0\nloss 0\n"),
+        (line(most, "\r\nloss 2"), "error 1 a line has at most 1048576 bytes\nloss 0\n"),
+        (line(most + 1, ""), "error 1 a line has at most 1048576 bytes\n"),
+    ] {
+        assert_eq!(answers(text.as_bytes()), expected);
+    }
+}
+
+#[test]
+fn calls_are_listed() {
+    let listed = answers(b"help");
+    assert!(
+        listed.starts_with("help open takes N L D G NA; loss takes G; pluck takes A COUNT SEED; ")
+    );
+    assert!(
+        listed.ends_with("; wavread takes ROOM B1 B2 .. (ROOM at most 4096); help takes nothing\n")
+    );
+    assert_eq!(listed.split("; ").count(), 20);
 }

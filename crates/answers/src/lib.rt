@@ -6,6 +6,7 @@ ghost use Rattle.request.specs.Within.{Within};
 
 mod recordings;
 
+use help::help;
 use print::number;
 use print::pair;
 use print::short;
@@ -14,6 +15,7 @@ use print::triple;
 use request::Request;
 use request::kinds::COEFFICIENTS;
 use request::kinds::DRAW;
+use request::kinds::HELP;
 use request::kinds::LENGTH;
 use request::kinds::NOTE;
 use request::kinds::RECORD;
@@ -101,6 +103,7 @@ pub fn asked(buffer: &mut [u8; 4096], at: usize, s: &[u8], l: Request) -> usize
         RECORD => record(buffer, at, s, l.list),
         WAVWRITE => recordings::write(buffer, at, s, l),
         WAVREAD => recordings::read(buffer, at, s, l),
+        HELP => help(buffer, at),
         _ => at,
     }
 }

@@ -1,105 +1,102 @@
-// The console: reads a text from standard input and answers each line by a line, by calls on one voice.
-// A text of more than 1,048,576 bytes is answered up to the line in which it passes that, and it is said so.
+// The console: answers each line of standard input by a line, as it comes, by calls on one voice.
+// A read or a write that failed is said on standard error, and ends it.
 ghost use mathlib.Core.Path.{_≡_};
-ghost use Prim.Native.Nat.{_+_, _-_, _≤_};
+ghost use Prim.Native.Nat.{_≤_};
 ghost use lib.ListN.{length};
 ghost use Rattle.voice.specs.Valid.{Valid};
-use libc::STDIN_FILENO;
 
 mod calls;
+mod kept;
+mod lines;
 mod run;
 mod shown;
 mod start;
 mod turn;
 
 use calls::opened;
-use print::bytes;
+use input::more;
+use kept::Kept;
+use kept::ROOM;
+use lines::came;
 use print::flush;
-use print::number;
 use request::kinds::EMPTY;
 use request::plain;
 use turn::answered;
-use voice::Head;
-use words::before;
 
-// Room for the text and one byte more.
-fn text_room() -> [u8; 1048577]
+// Room for a line.
+fn line_room() -> [u8; ROOM]
     ensures { λ r. ⌜ 1048577 ≡ length r ⌝ }
 {
-    [0; 1048577]
+    [0; ROOM]
 }
 
-// Says that the text was not read to its end.
-fn more(buffer: &mut [u8; 4096], at: usize, index: u64) -> usize {
-    let a = bytes(buffer, at, b"a text of more than 1048576 bytes: line");
-    let b = number(buffer, a, index);
-    bytes(buffer, b, b" and all after it are not answered\n")
-}
-
-// Writes what is left, where a text of size bytes was answered up to a line.
-fn finish(buffer: &mut [u8; 4096], at: usize, index: u64, size: usize) {
-    let mut a = at;
-    if 1_048_576 < size {
-        a = more(buffer, at, index);
+// Answers the last line, which no line feed ends, and returns the place in the buffer.
+fn last(line: &mut [i32; 2112], k: Kept, buffer: &mut [u8; 4096], room: &[u8; ROOM]) -> usize
+    requires { ⌜ Valid (k .head) (now line) × (k .held ≤ 1048577) ⌝ }
+{
+    if k.long {
+        return k.at;
     }
-    flush(buffer, a);
+    let s: &[u8] = room;
+    let held = k.held;
+    let r = answered(line, k.head, buffer, k.at, &s[..held], k.index);
+    r.at
 }
 
-// Nothing more is to be answered: standard output took no more, or the line of e bytes is cut, since
-// nothing is left after it and the text is longer than may be.
-fn over(at: usize, e: usize, left: usize, size: usize) -> bool {
+// Says that standard output did not take all, where the place in the buffer says so.
+fn complain(at: usize) {
     if 4_096 < at {
-        return true;
+        os::fail(b"console: standard output");
     }
-    if e == left {
-        return 1_048_576 < size;
-    }
-    false
 }
 
-// What follows a line of e bytes and the byte that ends it.
-fn rest<'a>(t: &'a [u8], e: usize) -> &'a [u8]
-    requires { ⌜ e ≤ length (now t) ⌝ }
-    ensures { λ r. ⌜ length (now r) ≡ length (now (t .entry)) - (e + 1) ⌝ }
+// No more comes: the last line is answered, or it is said that the read failed.
+fn finish(line: &mut [i32; 2112], k: Kept, buffer: &mut [u8; 4096], room: &[u8; ROOM], failed: bool)
+    requires { ⌜ Valid (k .head) (now line) × (k .held ≤ 1048577) ⌝ }
 {
-    if e == t.len() {
-        return &t[e..];
+    if failed {
+        os::fail(b"console: standard input");
+        return;
     }
-    &t[e + 1..]
+    let at = last(line, k, buffer, room);
+    complain(flush(buffer, at));
 }
 
-// Answers the lines of a text. The last is left where the text is cut in it.
-fn lines(s: &[u8], line: &mut [i32; 2112], mut head: Head, buffer: &mut [u8; 4096])
-    requires { ⌜ Valid head (now line) ⌝ }
+// Reads and answers until the input ends, a read fails, or standard output takes no more. A loop must end, so it
+// ends after 2^64 - 1 reads too.
+fn answer(line: &mut [i32; 2112], mut k: Kept, buffer: &mut [u8; 4096], room: &mut [u8; ROOM])
+    requires { ⌜ Valid (k .head) (now line) × (k .held ≤ 1048577) ⌝ }
 {
-    let mut at = 0;
-    let mut t = s;
-    let mut index = 1;
-    while 0 < t.len() {
-        let e = before(t, b'\n');
-        if over(at, e, t.len(), s.len()) {
+    let mut turns: u64 = 18_446_744_073_709_551_615;
+    while 0 < turns {
+        turns = turns - 1;
+        let r = more(room, k.held);
+        if r.held <= k.held {
+            finish(line, k, buffer, room, r.failed);
+            return;
+        }
+        let n = came(line, k, buffer, room, r.held);
+        k = n;
+        if 4_096 < k.at {
             break;
         }
-        let r = answered(line, head, buffer, at, &t[..e], index);
-        head = r.head;
-        at = r.at;
-        let u = rest(t, e);
-        t = u;
-        index = index + 1;
     }
-    finish(buffer, at, index, s.len());
+    complain(k.at);
 }
 
-// Answers the lines of a text. Before any `open` the voice is the one that a refused Open returns.
-fn console(s: &[u8]) {
+// Before any `open` the voice is the one that a refused Open returns.
+fn main() {
     let mut line = [0i32; 2112];
     let mut buffer = [0u8; 4096];
+    let mut room = line_room();
     let first = opened(&mut line, plain(EMPTY));
-    lines(s, &mut line, first.head, &mut buffer);
-}
-
-fn main() {
-    let mut text = text_room();
-    let got = io::read_full(STDIN_FILENO, &mut text);
-    console(&text[..got]);
+    let h = first.head;
+    let k = Kept {
+        head: h,
+        at: 0,
+        index: 1,
+        held: 0,
+        long: false,
+    };
+    answer(&mut line, k, &mut buffer, &mut room);
 }

@@ -1,7 +1,7 @@
 // How an answer starts: the line's name, or `error`, and the numbers of a call.
 // What follows is printed by the routine that was called.
+use help::error;
 use print::bytes;
-use print::number;
 use print::short;
 use request::kinds::ERROR;
 use request::kinds::INSTANT;
@@ -15,11 +15,10 @@ fn name(buffer: &mut [u8; 4096], at: usize, s: &[u8]) -> usize {
     bytes(buffer, at, &s[a..e])
 }
 
-// The name of a line that is right; `error` and the number of one that is wrong.
+// The name of a line that is right; `error`, the number and what was expected of one that is wrong.
 pub fn start(buffer: &mut [u8; 4096], at: usize, s: &[u8], index: u64, kind: u32) -> usize {
     if kind == ERROR {
-        let a = bytes(buffer, at, b"error");
-        return number(buffer, a, index);
+        return error(buffer, at, s, index);
     }
     name(buffer, at, s)
 }

@@ -118,7 +118,7 @@ fn turned(
     }
 }
 
-// Reads a line up to a comment, makes its call and answers it.
+// Reads a line, which has no line feed, up to a comment, makes its call and answers it.
 pub fn answered(
     line: &mut [i32; 2112],
     head: Head,

@@ -1,6 +1,8 @@
 // Plays a score: reads its bytes from standard input, the first 32,768 of them, and prints each sample that
-// the run wrote on a line, then `end`, number, place, samples.
-use libc::STDIN_FILENO;
+// the run wrote on a line, then `end`, number, place, samples. A read or a write that failed is said on standard
+// error; nothing is played where the read failed.
+ghost use Prim.Native.Nat.{_≤_};
+use input::full;
 use print::bytes;
 use print::flush;
 use print::line;
@@ -36,13 +38,27 @@ fn told(output: &[i32; 16384], r: Played) {
     let mut buffer = [0u8; 4096];
     let a = samples(&mut buffer, output, r.written);
     let b = end(&mut buffer, a, r);
-    flush(&buffer, b);
+    if 4_096 < flush(&buffer, b) {
+        os::fail(b"player: standard output");
+    }
+}
+
+// Runs the first bytes, and prints what the run returned and wrote.
+fn play(given: &[u8; 32768], count: usize)
+    requires { ⌜ count ≤ 32768 ⌝ }
+{
+    let s: &[u8] = given;
+    let mut output = [0i32; 16384];
+    let r = score::run(&s[..count], &mut output);
+    told(&output, r);
 }
 
 fn main() {
     let mut bytes = [0u8; 32768];
-    let got = io::read_full(STDIN_FILENO, &mut bytes);
-    let mut output = [0i32; 16384];
-    let r = score::run(&bytes[..got], &mut output);
-    told(&output, r);
+    let r = full(&mut bytes);
+    if r.failed {
+        os::fail(b"player: standard input");
+        return;
+    }
+    play(&bytes, r.held);
 }

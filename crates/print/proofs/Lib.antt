@@ -1,2 +1,2 @@
 mod Joins
-mod Texts
+pub mod Texts

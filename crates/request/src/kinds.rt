@@ -1,8 +1,11 @@
 // The kinds of lines: their names, how many numbers follow each, and the largest counts of samples.
-// 0 is a line with no word, and 20 one that is none of the others.
+// 0 is a line with no word, 21 one that is none of the others, and 22 one that is too long.
 ghost use Prim.Native.Nat.{_≤_};
+ghost use Rattle.request.specs.Table.{table as Table, Named};
 use crate::lists::Taken;
-use words::word;
+use crate::table::TABLE;
+use words::pieces::after;
+use words::pieces::ahead;
 
 pub const EMPTY: u32 = 0;
 
@@ -44,22 +47,25 @@ pub const WAVWRITE: u32 = 18;
 
 pub const WAVREAD: u32 = 19;
 
-pub const ERROR: u32 = 20;
+pub const HELP: u32 = 20;
 
-// The place of a word in a list of words, from 1; 20 where it is none of the first 19.
-fn place(w: &[u8], names: &[u8]) -> u32
-    ensures { λ r. ⌜ r ≤ 20 ⌝ }
+pub const ERROR: u32 = 21;
+
+pub const LONG: u32 = 22;
+
+// The place of a word among the names of a table's rows, from 1; 21 where it is none of the first 20.
+fn place(w: &[u8], table: &[u8]) -> u32
+    ensures { λ r. ⌜ Named (now (table .entry)) (now (w .entry)) r ⌝ }
 {
-    let mut t = names;
+    let mut t = table;
     let mut k = 1;
     while k < ERROR {
-        let p = word(t);
-        let a = p.start;
-        let e = p.end;
-        if check::same(w, &t[a..e]) {
+        let row = ahead(t, b'\n');
+        if check::same(w, ahead(row, b' ')) {
             return k;
         }
-        t = &t[e..];
+        let u = after(t, b'\n');
+        t = u;
         k = k + 1;
     }
     ERROR
@@ -67,12 +73,9 @@ fn place(w: &[u8], names: &[u8]) -> u32
 
 // The kind of line that a word names.
 pub fn named(w: &[u8]) -> u32
-    ensures { λ r. ⌜ r ≤ 20 ⌝ }
+    ensures { λ r. ⌜ Named Table (now (w .entry)) r ⌝ }
 {
-    place(
-        w,
-        b"open loss pluck announce instant ask commit withdraw block coefficients length note draw record run state line wavwrite wavread",
-    )
+    place(w, &TABLE)
 }
 
 // How many numbers follow the name, before any list.

@@ -8,6 +8,7 @@ ghost use Rattle.request.specs.Within.{Within};
 pub mod kinds;
 pub mod lists;
 mod next;
+pub mod table;
 
 use kinds::EMPTY;
 use kinds::ERROR;

@@ -5,6 +5,8 @@ ghost use Prim.Native.Nat.{_≤_};
 ghost use lib.ListN.{length};
 ghost use Rattle.words.specs.Words.{blank, Before, Starts, Stops, First};
 
+pub mod pieces;
+
 // The place of a word: it is the bytes from start up to end, and there is none where the two are equal.
 pub struct Place {
     pub start: usize,

@@ -104,7 +104,7 @@ pub fn full_runs(random: Random) -> Text {
 
 /// A character of a text replaced, removed, or with another one before it.
 fn damage_text(random: &mut Random, bytes: &[u8], place: usize) -> Vec<u8> {
-    let other = random.pick(b"0123456789 \t\n-+#abcxyz.,AF");
+    let other = random.pick(b"0123456789 \t\n\r-+#abcxyz.,AF");
     let mut damaged = bytes.to_vec();
     match random.below(3) {
         0 => damaged[place] = other,

@@ -6,8 +6,21 @@ use super::{asked, lines, lists, recordings, words};
 /// The number of kinds of text; case `index` has the kind `index` modulo this.
 const KINDS: u64 = 24;
 
-/// The console text of case `index`.
+/// The same lines, with a carriage return before each line feed.
+fn with_returns(text: &[u8]) -> Vec<u8> {
+    text.split(|byte| *byte == b'\n').collect::<Vec<_>>().join(&b"\r\n"[..])
+}
+
+/// The console text of case `index`; one in eight has a carriage return before each line feed.
 pub fn text(seed: u64, index: u64) -> Vec<u8> {
+    match Random::new(!seed, index).one_in(8) {
+        true => with_returns(&plain(seed, index)),
+        false => plain(seed, index),
+    }
+}
+
+/// A text of the kind of this case.
+fn plain(seed: u64, index: u64) -> Vec<u8> {
     let mut random = Random::new(seed, index);
     match index % KINDS {
         0..=4 => lists::any_list(random, 0).bytes(),

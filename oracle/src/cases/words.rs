@@ -2,6 +2,7 @@
 
 use super::random::Random;
 use super::text::Text;
+use crate::command::LINE_BYTES;
 
 /// Lines right and wrong.
 #[rustfmt::skip]
@@ -33,6 +34,8 @@ const LINES: &[&str] = &[
     "wavwrite 192000 60 8388607 -8388608", "wavwrite 192001 60", "wavwrite 44100 50 +1", "wavread",
     "wavread 0", "wavread 4096", "wavread 4097", "wavread 3 52 49 46 4", "wavread 3 52 49 46 46",
     "wavread -1",
+    "help", "help", "help 1", "help#", " help ", "Help", "helps", "state\r", "state\r\r", "state \r", "\r", "\r\r", "\rstate",
+    "loss\r1", "loss 1\r2", "loss 1\r", "loss 1 \r#", "loss 1#\r", "# \r", "block 1 5\r", "record 00\r", "record 00\r 00",
     "line", "line 2112", "line 2113", "line 0", "line 1 2", "line -1", "line 3", "s", "end", "error 1", "77",
 ];
 
@@ -41,7 +44,27 @@ fn zeros(places: usize, count: usize) -> String {
     format!("block {places}{}", " 0".repeat(count))
 }
 
-/// Random lines of the table; some texts have blocks at the limit of 4,096 samples.
+/// A line of so many bytes: a loss, and then blanks or a comment.
+fn wide(bytes: usize, filling: &str) -> String {
+    format!("loss 7{}", filling.repeat(bytes - 6))
+}
+
+/// Lines of as many bytes as a line may have, and of more; the last line of the text has no line feed behind it.
+fn at_the_limit(text: &mut Text) {
+    for _ in 0..3 {
+        let bytes = LINE_BYTES + text.random.pick(&[0, 0, 1, 2, 700, LINE_BYTES]) - 1;
+        let (filling, end) =
+            (text.random.pick(&[" ", " ", "#"]), text.random.pick(&["\r", "x", "#"]));
+        text.line(wide(bytes, filling) + end);
+        text.line("state".to_string());
+    }
+    if text.random.one_in(2) {
+        text.lines.pop();
+    }
+}
+
+/// Random lines of the table; some texts have blocks at the limit of 4,096 samples, or lines at the
+/// limit of their bytes.
 pub fn words(random: Random) -> Text {
     let mut text = Text::new(random, 0, false);
     for _ in 0..40 {
@@ -53,6 +76,9 @@ pub fn words(random: Random) -> Text {
             text.line(zeros(places, count));
         }
         text.inspect();
+    }
+    if text.random.one_in(24) {
+        at_the_limit(&mut text);
     }
     text
 }

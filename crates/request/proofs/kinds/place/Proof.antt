@@ -1,45 +1,93 @@
--- `request::kinds::place` meets its contract: each word is within what is left of the list.
+-- `request::kinds::place` meets its contract: no row that was passed has the word for its name.
 -- Assumes nothing.
-use Prim.Native.Nat.{_-_, _≤_}
+use mathlib.Core.Path.{_≡_, refl, sym, ap, _∙_}
+use mathlib.Core.Bool.{true, false, false≢true}
+use mathlib.Core.List.{List}
+use Prim.Native.Nat.{ℕ, suc, _+_, _-_, _≤_, _<_}
+use native.Mathlib.Omega.{arith}
 use borrow.Author.Needs.{needs}
+use Rattle.words.specs.Pieces.{cut, past, piece}
+use Rattle.words.proofs.Cuts.{piece-first, piece-less}
+use Rattle.words.proofs.Places.{from-more}
+use Rattle.request.specs.Table.{name, Named}
 use Rattle.request.proofs.kinds.place.Statement.{statement}
 use Rattle.request.proofs.kinds.place.Tie as tie
 
+-- t is what is left of the table from row k on
+module _ (table t : List ℕ) (k : ℕ) (h : 1 ≤ k) (e : (j : ℕ) → piece 10 j t ≡ piece 10 (k - 1 + j) table) where
+  first : cut 32 (cut 10 t) ≡ name table k
+  first =
+      let n : k - 1 + 0 ≡ k - 1 = omega arith in
+      ap (cut 32) (piece-first 10 0 t (omega arith) ∙ e 0 ∙ ap (λ (i : ℕ). piece 10 i table) n)
+
+  others : (j : ℕ) → piece 10 j (past 10 t) ≡ piece 10 (k + 1 - 1 + j) table
+  others j =
+      let m : j ≡ suc j - 1 = omega arith in
+      let n : k - 1 + suc j ≡ k + 1 - 1 + j = omega arith in
+      ap (λ (i : ℕ). piece 10 i (past 10 t)) m ∙ piece-less 10 (suc j) t (omega arith)
+      ∙ e (suc j) ∙ ap (λ (i : ℕ). piece 10 i table) n
+
 abbrev Inv-loop : tie.InvT-loop
-Inv-loop w names t₀ k₀ t k = k ≤ 20
+Inv-loop w table t₀ k₀ t k =
+    (1 ≤ k) × (k ≤ 21)
+    × ((j : ℕ) → piece 10 j t ≡ piece 10 (k - 1 + j) table)
+    × ((j : ℕ) → 1 ≤ j → j < k → w ≡ name table j → ⊥)
 
 abbrev μ-loop : tie.MeasureT-loop
-μ-loop w names t₀ k₀ t k = 20 - k
+μ-loop w table t₀ k₀ t k = 21 - k
 
 loop-holds : tie.Need-loop-holds Inv-loop μ-loop
-loop-holds c = search needs
+loop-holds c = (
+  omega arith,
+  omega arith,
+  λ j. let n : j ≡ 0 + j = omega arith in ap (λ (i : ℕ). piece 10 i _) n,
+  λ j h l. absurd (omega arith),
+)
 
-word-requires : tie.Need-word-requires Inv-loop μ-loop
-word-requires c κs = search needs
+ahead-requires : tie.Need-ahead-requires Inv-loop μ-loop
+ahead-requires c κs = search needs
 
-sub-same : tie.Need-sub-same Inv-loop μ-loop
-sub-same c = search needs
-
-part-same-start : tie.Need-part-same-start Inv-loop μ-loop
-part-same-start c = search needs
-
-part-same-end : tie.Need-part-same-end Inv-loop μ-loop
-part-same-end c = search needs
+ahead-requires-2 : tie.Need-ahead-requires-2 Inv-loop μ-loop
+ahead-requires-2 c κs = search needs
 
 same-requires : tie.Need-same-requires Inv-loop μ-loop
 same-requires c κs = search needs
 
+names : (c : tie.After-same Inv-loop μ-loop)
+    → c .before .ahead2 .result .now
+    ≡ name (c .before .before .before .before .before .before .before .args .table .now)
+    (c .before .before .before .before .loop .k)
+names c =
+    let l = c .before .before .before .before .loop in
+    c .before .ahead2 .ensures
+    ∙ ap (cut 32) (c .before .before .ahead .ensures)
+    ∙ first _ (l .t .now) (l .k) (l .inv .0) (l .inv .2)
+
+same-name : (c : tie.After-same Inv-loop μ-loop) → c .same .result ≡ true
+    → c .before .before .before .before .before .before .before .args .w .now
+    ≡ name (c .before .before .before .before .before .before .before .args .table .now)
+    (c .before .before .before .before .loop .k)
+same-name c h = c .same .ensures .0 h ∙ names c
+
+other-name : (c : tie.After-same Inv-loop μ-loop) → c .same .result ≡ false
+    → c .before .before .before .before .before .before .before .args .w .now
+    ≡ name (c .before .before .before .before .before .before .before .args .table .now)
+    (c .before .before .before .before .loop .k)
+    → ⊥
+other-name c h e = false≢true (sym h ∙ c .same .ensures .1 (e ∙ sym (names c)))
+
 returns : tie.Need-returns Inv-loop μ-loop
-returns c = search needs
+returns c =
+    let l = c .before .before .before .before .before .loop in
+    record {
+      least = l .inv .0;
+      most = l .inv .1;
+      here = λ h. same-name (c .before) (c .if1 .taken);
+      none = l .inv .3;
+    }
 
-sub-t : tie.Need-sub-t Inv-loop μ-loop
-sub-t c = search needs
-
-part-t-start : tie.Need-part-t-start Inv-loop μ-loop
-part-t-start c = search needs
-
-part-t-end : tie.Need-part-t-end Inv-loop μ-loop
-part-t-end c = search needs
+after-requires : tie.Need-after-requires Inv-loop μ-loop
+after-requires c κs = search needs
 
 add-k : tie.Need-add-k Inv-loop μ-loop
 add-k c = search needs
@@ -48,10 +96,25 @@ loop-less : tie.Need-loop-less Inv-loop μ-loop
 loop-less c = search needs
 
 loop-again : tie.Need-loop-again Inv-loop μ-loop
-loop-again c = search needs
+loop-again c =
+    let s = c .before .before in
+    let l = s .before .before .before .before .loop in
+    let table = s .before .before .before .before .before .before .before .args .table .now in (
+      omega arith,
+      omega arith,
+      λ j. ap (piece 10 j) (c .after .ensures) ∙ others table (l .t .now) (l .k) (l .inv .0) (l .inv .2) j,
+      from-more _ 1 (l .k) (l .inv .3) (λ e. other-name s (c .before .if1 .left) e),
+    )
 
 returns-2 : tie.Need-returns-2 Inv-loop μ-loop
-returns-2 c = search needs
+returns-2 c =
+    let l = c .before .loop in
+    record {
+      least = omega arith;
+      most = omega arith;
+      here = λ h. absurd (omega arith);
+      none = λ k m h. l .inv .3 k m (omega arith);
+    }
 
 pub place-spec : {M : Type 1} → statement M
 place-spec =
@@ -60,15 +123,11 @@ place-spec =
     Inv-loop
     μ-loop
     loop-holds
-    word-requires
-    sub-same
-    part-same-start
-    part-same-end
+    ahead-requires
+    ahead-requires-2
     same-requires
     returns
-    sub-t
-    part-t-start
-    part-t-end
+    after-requires
     add-k
     loop-less
     loop-again

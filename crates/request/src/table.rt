@@ -1,0 +1,25 @@
+// What each call takes, a row for each kind from OPEN to HELP in their order; then what is said of a line whose
+// name is none of these, and of one that is too long. No row has more than 64 bytes. specs/Table.antt has it too.
+pub const TABLE: [u8; 602] = *b"\
+    open takes N L D G NA\n\
+    loss takes G\n\
+    pluck takes A COUNT SEED\n\
+    announce takes L D\n\
+    instant takes L D\n\
+    ask takes L D\n\
+    commit takes nothing\n\
+    withdraw takes nothing\n\
+    block takes OUT X1 X2 .. (at most 4096 each)\n\
+    coefficients takes N D\n\
+    length takes N D THRESHOLD\n\
+    note takes N RATE M\n\
+    draw takes STATE\n\
+    record takes B1 B2 ..\n\
+    run takes OUT B1 B2 .. (OUT at most 16384)\n\
+    state takes nothing\n\
+    line takes K (at most 2112)\n\
+    wavwrite takes RATE ROOM X1 X2 .. (ROOM at most 16384, X 4096)\n\
+    wavread takes ROOM B1 B2 .. (ROOM at most 4096)\n\
+    help takes nothing\n\
+    no call has this name: help lists them\n\
+    a line has at most 1048576 bytes\n";
