@@ -9,8 +9,6 @@
 
 enum { ROUNDS = 20, RUNS = 15, SAMPLES = 1 << 17, RECORDS = 1 << 14 };
 
-static const uint32_t waits[WAITS] = { 64, 1024, 65535 };
-
 /* A score is short enough to be played within one turn that the system gives a program. */
 static uint8_t score[16 * RECORDS];
 static size_t score_length;
@@ -97,15 +95,15 @@ static void perform_once(void) { perform_list(1, output[1], SAMPLES, &once); }
 static int again(Row *r)
 {
     Played p;
-    int asks = r->change == ASKED_CHANGE;
-    if (asks)
-        make_list(r->order, r->wait, SAMPLES);
+    int listed = r->change == ASKED_CHANGE || r->to != r->order;
+    if (listed)
+        make_list(r->order, r->to, r->change, r->wait, SAMPLES);
     else
         score_length = make_score(score, r->order, r->change, r->wait, SAMPLES);
-    int same = best_of(asks ? perform : run, r->best, &p);
+    int same = best_of(listed ? perform : run, r->best, &p);
     r->written = p.written;
-    r->stack = stack_of(asks ? perform_once : run_once);
-    same &= p.refusal == JIVASZTE_DONE && (p.place == 0 || !asks);
+    r->stack = stack_of(listed ? perform_once : run_once);
+    same &= p.refusal == JIVASZTE_DONE && (p.place == 0 || !listed);
     return same && p.written > SAMPLES - r->wait && 2 * sounding(p.written) > p.written;
 }
 
@@ -115,11 +113,7 @@ int main(void)
     double best[2] = { 0, 0 }, wav[2][2] = { { 0, 0 }, { 0, 0 } };
     Played p;
     int agree = 1;
-    for (int i = 0; i < SCORES; i++)
-        rows[i] = (Row){ .order = i / WAITS % ORDERS + 1, .change = i / (WAITS * ORDERS), .wait = waits[i % WAITS],
-                         .agree = 1 };
-    for (int i = SCORES; i < ROWS; i++)
-        rows[i] = (Row){ .order = i - SCORES + 1, .change = ASKED_CHANGE, .wait = waits[1], .agree = 1 };
+    make_rows(rows);
     for (int round = 0; round < ROUNDS; round++) {
         for (int i = 0; i < ROWS; i++)
             rows[i].agree &= again(&rows[i]);

@@ -1,4 +1,5 @@
-/* The list of calls that bench.c times, made for jivaszte_perform and for plain C alike: scores cannot ask. */
+/* The lists of calls that bench.c times, made for jivaszte_perform and for plain C alike: scores can neither ask nor change
+   the order. */
 #include "../include/jivaszte.h"
 #include "bench.h"
 #include "plain.h"
@@ -16,16 +17,19 @@ static void add(uint32_t kind, uint32_t a, uint32_t b, uint32_t c)
         words[count++] = call[k];
 }
 
-void make_list(uint32_t order, uint32_t wait, size_t samples)
+void make_list(uint32_t order, uint32_t to, int change, uint32_t wait, size_t samples)
 {
+    static const uint32_t kinds[] = { 0, JIVASZTE_CALL_ANNOUNCE, JIVASZTE_CALL_INSTANT, JIVASZTE_CALL_ASK };
     list_order = order;
     count = 0;
     add(JIVASZTE_CALL_PLUCK, 255, 2048, 0);
     int other = 1;
     for (size_t done = 0; done + wait <= samples; done += wait, other = !other) {
-        add(JIVASZTE_CALL_ASK, lengths[other], delays[order - 1][other], 0);
+        uint32_t named = other ? to : order;
+        add(kinds[change], named, lengths[other], delays[named - 1][other]);
         add(JIVASZTE_CALL_BLOCK, wait, wait, 0);
-        add(JIVASZTE_CALL_COMMIT, 0, 0, 0);
+        if (change == ASKED_CHANGE)
+            add(JIVASZTE_CALL_COMMIT, 0, 0, 0);
     }
 }
 

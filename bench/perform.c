@@ -39,9 +39,9 @@ static uint32_t call(Voice *v, const uint32_t *w, const int32_t *input, int32_t 
     case JIVASZTE_CALL_BLOCK: return block(v, input, w[1], output, w[2]);
     case JIVASZTE_CALL_LOSS: return set_loss(v, w[1]);
     case JIVASZTE_CALL_PLUCK: return pluck(v, w[1], w[2], w[3]);
-    case JIVASZTE_CALL_ANNOUNCE: return change(v, w[1], w[2], ANNOUNCED);
-    case JIVASZTE_CALL_INSTANT: return change(v, w[1], w[2], INSTANT);
-    case JIVASZTE_CALL_ASK: return change(v, w[1], w[2], ASKED);
+    case JIVASZTE_CALL_ANNOUNCE: return change(v, w[1], w[2], w[3], ANNOUNCED);
+    case JIVASZTE_CALL_INSTANT: return change(v, w[1], w[2], w[3], INSTANT);
+    case JIVASZTE_CALL_ASK: return change(v, w[1], w[2], w[3], ASKED);
     case JIVASZTE_CALL_COMMIT: return commit(v);
     default: return withdraw(v);
     }

@@ -1,6 +1,7 @@
 /* The samples of the voice in plain C, in the fastest form found: divisions by constants, the state in locals, a
-   loop for each order and for each part that can be absent, and stretches of samples in which neither the ring ends nor
-   a pluck nor a waiting change, so that the loops have no test but their count and the clips. */
+   loop for each order in force, for each order that waits and for each part that can be absent, and stretches of samples
+   in which neither the ring ends nor a pluck nor a waiting change, so that the loops have no test but their count and the
+   clips. */
 #include "plain.h"
 
 /* One test that seldom holds, which was faster than two conditional moves. */
@@ -13,11 +14,11 @@ static inline int64_t clip(int64_t u)
 
 static inline uint32_t least(uint32_t a, uint32_t b) { return a < b ? a : b; }
 
-/* One stretch. order, waits, plucks and feeds, which is whether there is an input, are constants where it is called, and
-   each call becomes its own loop. */
+/* One stretch. order, coming, which is the order that waits or 0, plucks and feeds, which is whether there is an input,
+   are constants where it is called, and each call becomes its own loop. */
 static inline __attribute__((always_inline)) void
-stretch(Voice *v, const int32_t *restrict in, int32_t *restrict out, uint32_t n, uint32_t order, int waits, int plucks,
-        int feeds)
+stretch(Voice *v, const int32_t *restrict in, int32_t *restrict out, uint32_t n, uint32_t order, uint32_t coming,
+        int plucks, int feeds)
 {
     const int64_t a1 = v->filter.a1, a2 = v->filter.a2, a3 = v->filter.a3;
     const int64_t b1 = v->next.a1, b2 = v->next.a2, b3 = v->next.a3;
@@ -27,7 +28,7 @@ stretch(Voice *v, const int32_t *restrict in, int32_t *restrict out, uint32_t n,
     uint32_t noise = v->noise;
     int32_t *to = v->line + v->at;
     const int32_t *from = v->line + place(v->at, v->filter.length);
-    const int32_t *ahead = v->line + (waits ? place(v->at, v->next.length) : 0);
+    const int32_t *ahead = v->line + (coming ? place(v->at, v->next.length) : 0);
     for (uint32_t i = 0; i < n; i++) {
         int64_t w, y, s;
         if (order == 1) {
@@ -44,8 +45,8 @@ stretch(Voice *v, const int32_t *restrict in, int32_t *restrict out, uint32_t n,
             v2 = v1;
         }
         v1 = w;
-        if (waits) {
-            int64_t more = (order > 1 ? b2 * e2 : 0) + (order > 2 ? b3 * e3 : 0);
+        if (coming) {
+            int64_t more = (coming > 1 ? b2 * e2 : 0) + (coming > 2 ? b3 * e3 : 0);
             int64_t e = ahead[i] - (b1 * e1 + more) / 65536;
             e3 = e2;
             e2 = e1;
@@ -66,30 +67,37 @@ stretch(Voice *v, const int32_t *restrict in, int32_t *restrict out, uint32_t n,
     v->filter.v2 = order > 1 ? v2 : 0;
     v->filter.v3 = order > 2 ? v3 : 0;
     v->last = last;
-    if (waits) {
+    if (coming) {
         v->next.v1 = e1;
-        v->next.v2 = order > 1 ? e2 : 0;
-        v->next.v3 = order > 2 ? e3 : 0;
+        v->next.v2 = coming > 1 ? e2 : 0;
+        v->next.v3 = coming > 2 ? e3 : 0;
     }
     v->noise = noise;
 }
 
-/* The loop for the order and for what there is beside the filter. */
+/* The loop for what waits and for whether a pluck sounds, of one order in force. */
+static inline __attribute__((always_inline)) void
+stretch_in(Voice *v, const int32_t *in, int32_t *out, uint32_t n, uint32_t order, int feeds)
+{
+    switch ((v->waits ? v->next.order : 0) * 2 + (v->left != 0)) {
+    case 0: stretch(v, in, out, n, order, 0, 0, feeds); break;
+    case 1: stretch(v, in, out, n, order, 0, 1, feeds); break;
+    case 2: stretch(v, in, out, n, order, 1, 0, feeds); break;
+    case 3: stretch(v, in, out, n, order, 1, 1, feeds); break;
+    case 4: stretch(v, in, out, n, order, 2, 0, feeds); break;
+    case 5: stretch(v, in, out, n, order, 2, 1, feeds); break;
+    case 6: stretch(v, in, out, n, order, 3, 0, feeds); break;
+    case 7: stretch(v, in, out, n, order, 3, 1, feeds); break;
+    }
+}
+
+/* The loop for the order in force and for what there is beside the filter. */
 static inline __attribute__((always_inline)) void stretch_of(Voice *v, const int32_t *in, int32_t *out, uint32_t n, int feeds)
 {
-    switch ((v->order - 1) * 4 + v->waits * 2 + (v->left != 0)) {
-    case 0: stretch(v, in, out, n, 1, 0, 0, feeds); break;
-    case 1: stretch(v, in, out, n, 1, 0, 1, feeds); break;
-    case 2: stretch(v, in, out, n, 1, 1, 0, feeds); break;
-    case 3: stretch(v, in, out, n, 1, 1, 1, feeds); break;
-    case 4: stretch(v, in, out, n, 2, 0, 0, feeds); break;
-    case 5: stretch(v, in, out, n, 2, 0, 1, feeds); break;
-    case 6: stretch(v, in, out, n, 2, 1, 0, feeds); break;
-    case 7: stretch(v, in, out, n, 2, 1, 1, feeds); break;
-    case 8: stretch(v, in, out, n, 3, 0, 0, feeds); break;
-    case 9: stretch(v, in, out, n, 3, 0, 1, feeds); break;
-    case 10: stretch(v, in, out, n, 3, 1, 0, feeds); break;
-    case 11: stretch(v, in, out, n, 3, 1, 1, feeds); break;
+    switch (v->filter.order) {
+    case 1: stretch_in(v, in, out, n, 1, feeds); break;
+    case 2: stretch_in(v, in, out, n, 2, feeds); break;
+    case 3: stretch_in(v, in, out, n, 3, feeds); break;
     }
 }
 

@@ -31,8 +31,8 @@ static uint32_t act(Voice *v, const uint32_t r[9])
     if (map & 8)
         v->loss = r[5];
     if (map & 6) {
-        uint32_t code = change(v, map & 2 ? r[3] : v->filter.length, map & 4 ? r[4] : v->filter.delay,
-                               map >> 7 ? INSTANT : ANNOUNCED);
+        uint32_t code = change(v, v->filter.order, map & 2 ? r[3] : v->filter.length,
+                               map & 4 ? r[4] : v->filter.delay, map >> 7 ? INSTANT : ANNOUNCED);
         if (code)
             return code;
     }

@@ -1,11 +1,33 @@
-/* The table that bench.c prints. */
+/* The rows of the table, and how bench.c prints them. */
 #include "bench.h"
 #include <stdio.h>
+
+static Row row(uint32_t order, uint32_t to, int change, uint32_t wait)
+{
+    return (Row){ .order = order, .to = to, .change = change, .wait = wait, .agree = 1 };
+}
+
+void make_rows(Row *rows)
+{
+    static const uint32_t waits[WAITS] = { 64, 1024, 65535 }, pairs[PAIRS][2] = { { 1, 2 }, { 1, 3 }, { 2, 3 } };
+    for (int change = NO_CHANGE; change <= INSTANT_CHANGE; change++)
+        for (uint32_t order = 1; order <= ORDERS; order++)
+            for (int i = 0; i < WAITS; i++)
+                *rows++ = row(order, order, change, waits[i]);
+    for (uint32_t order = 1; order <= ORDERS; order++)
+        *rows++ = row(order, order, ASKED_CHANGE, waits[1]);
+    for (int change = ANNOUNCED_CHANGE; change <= ASKED_CHANGE; change++)
+        for (int i = 0; i < PAIRS; i++)
+            *rows++ = row(pairs[i][0], pairs[i][1], change, waits[1]);
+}
 
 static void print_row(const Row *r)
 {
     static const char *const changes[] = { "none", "announced", "instant", "asked" };
-    printf("| %u | %s | %u | %.0f | %.0f | %.2f | %zu | %s |\n", r->order, changes[r->change], r->wait,
+    printf("| %u", r->order);
+    if (r->to != r->order)
+        printf(", %u", r->to);
+    printf(" | %s | %u | %.0f | %.0f | %.2f | %zu | %s |\n", changes[r->change], r->wait,
            r->written / r->best[0] / 1e6, r->written / r->best[1] / 1e6, r->best[0] / r->best[1], r->stack,
            r->agree ? "yes" : "NO");
 }
@@ -37,8 +59,10 @@ void print_rows(const Row *rows)
     printf("|---|---|---|---|---|---|---|---|\n");
     for (int i = 0; i < ROWS; i++)
         print_row(&rows[i]);
-    printf("\nleast ratio at waits of 64: %.3f; of 1,024 and more: %.3f; with an asked change: %.3f\n",
-           least(rows, rows + SCORES, 0), least(rows, rows + SCORES, 1), least(rows + SCORES, rows + ROWS, 1));
+    printf("\nleast ratio at waits of 64: %.3f; of 1,024 and more: %.3f; with an asked change: %.3f; with changes of the "
+           "order: %.3f\n",
+           least(rows, rows + SCORES, 0), least(rows, rows + SCORES, 1), least(rows + SCORES, rows + ASKS, 1),
+           least(rows + ASKS, rows + ROWS, 1));
     printf("\n| order | nanoseconds of | a sample | a record | an announced change | an instant change |\n");
     printf("|---|---|---|---|---|---|\n");
     for (const Row *none = rows; none < rows + WAITS * ORDERS; none += WAITS)

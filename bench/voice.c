@@ -11,7 +11,7 @@ static int64_t nearest(int64_t p, int64_t q)
 
 static Filter resting(uint32_t order, uint32_t length, uint32_t delay)
 {
-    Filter f = { 0, 0, 0, 0, 0, 0, length, delay };
+    Filter f = { 0, 0, 0, 0, 0, 0, order, length, delay };
     int64_t d = delay;
     if (order == 1) {
         f.a1 = nearest(65536 * (4096 - d), 4096 + d);
@@ -27,9 +27,11 @@ static Filter resting(uint32_t order, uint32_t length, uint32_t delay)
     return f;
 }
 
-/* What a length and a delay are refused by: 2, 3, else 0. */
+/* What a tuning is refused by: 1, 2, 3, else 0. */
 static uint32_t untuned(uint32_t order, uint32_t length, uint32_t delay)
 {
+    if (outside(order, 1, 3))
+        return 1;
     if (outside(length, 1, 2048))
         return 2;
     return outside(delay, 4096 * order - 2047, 4096 * order + 2048) ? 3 : 0;
@@ -37,11 +39,10 @@ static uint32_t untuned(uint32_t order, uint32_t length, uint32_t delay)
 
 uint32_t open_voice(Voice *v, uint32_t order, uint32_t length, uint32_t delay, uint32_t loss, uint32_t advance)
 {
-    uint32_t code = outside(order, 1, 3) ? 1 : untuned(order, length, delay);
+    uint32_t code = untuned(order, length, delay);
     if (code == 0)
         code = loss > 65535 ? 4 : advance > 64 ? 5 : 0;
     memset(v, 0, sizeof *v);
-    v->order = code ? 1 : order;
     v->loss = code ? 0 : loss;
     v->advance = code ? 0 : advance;
     v->filter = code ? resting(1, 1, 4096) : resting(order, length, delay);
@@ -68,20 +69,20 @@ uint32_t pluck(Voice *v, uint32_t amplitude, uint32_t count, uint32_t seed)
     return 0;
 }
 
-uint32_t change(Voice *v, uint32_t length, uint32_t delay, int kind)
+uint32_t change(Voice *v, uint32_t order, uint32_t length, uint32_t delay, int kind)
 {
-    uint32_t code = untuned(v->order, length, delay);
+    uint32_t code = untuned(order, length, delay);
     if (code)
         return code;
     if (v->waits)
         return 6;
-    Filter f = resting(v->order, length, delay);
+    Filter f = resting(order, length, delay);
     if (kind == INSTANT) {
         for (uint32_t k = v->advance; k > 0; k--) {
             int64_t u = f.a1 * f.v1 + (f.a2 * f.v2 + f.a3 * f.v3);
             int64_t w = v->line[place(v->at, length + k)] - u / 65536;
-            f.v3 = v->order > 2 ? f.v2 : 0;
-            f.v2 = v->order > 1 ? f.v1 : 0;
+            f.v3 = order > 2 ? f.v2 : 0;
+            f.v2 = order > 1 ? f.v1 : 0;
             f.v1 = w;
         }
         v->filter = f;

@@ -136,15 +136,23 @@ int main(void)
     static const uint8_t seed[] = { 64, 1, 2 };
     static const uint32_t calls[] = {
         JIVASZTE_CALL_BLOCK, 6, 6, 0, JIVASZTE_CALL_BLOCK, 1, 2, 0, JIVASZTE_CALL_LOSS, 65536, 0, 0,
-        JIVASZTE_CALL_INSTANT, 1, 4096, 0, JIVASZTE_CALL_ANNOUNCE, 2, 6145, 0, JIVASZTE_CALL_BLOCK, 1, 1, 0,
+        JIVASZTE_CALL_INSTANT, 1, 1, 4096, JIVASZTE_CALL_ANNOUNCE, 1, 2, 6145, JIVASZTE_CALL_BLOCK, 1, 1, 0,
     };
     static const uint32_t asks[] = {
-        JIVASZTE_CALL_BLOCK, 2, 2, 0, JIVASZTE_CALL_ASK, 2, 6144, 0, JIVASZTE_CALL_COMMIT, 0, 0, 0,
+        JIVASZTE_CALL_BLOCK, 2, 2, 0, JIVASZTE_CALL_ASK, 1, 2, 6144, JIVASZTE_CALL_COMMIT, 0, 0, 0,
         JIVASZTE_CALL_BLOCK, 3, 3, 0, JIVASZTE_CALL_COMMIT, 0, 0, 0, JIVASZTE_CALL_BLOCK, 3, 3, 0,
     };
     static const uint32_t drops[] = {
-        JIVASZTE_CALL_ASK, 2, 6144, 0, JIVASZTE_CALL_BLOCK, 8, 8, 0, JIVASZTE_CALL_WITHDRAW, 0, 0, 0,
-        JIVASZTE_CALL_COMMIT, 0, 0, 0, JIVASZTE_CALL_ANNOUNCE, 2, 6144, 0, JIVASZTE_CALL_WITHDRAW, 0, 0, 0,
+        JIVASZTE_CALL_ASK, 1, 2, 6144, JIVASZTE_CALL_BLOCK, 8, 8, 0, JIVASZTE_CALL_WITHDRAW, 0, 0, 0,
+        JIVASZTE_CALL_COMMIT, 0, 0, 0, JIVASZTE_CALL_ANNOUNCE, 1, 2, 6144, JIVASZTE_CALL_WITHDRAW, 0, 0, 0,
+    };
+    static const uint32_t orders[] = {
+        JIVASZTE_CALL_ANNOUNCE, 3, 1, 10241, JIVASZTE_CALL_BLOCK, 5, 5, 0, JIVASZTE_CALL_INSTANT, 1, 1, 6144,
+        JIVASZTE_CALL_ASK, 2, 1, 6145, JIVASZTE_CALL_BLOCK, 3, 3, 0, JIVASZTE_CALL_COMMIT, 0, 0, 0,
+    };
+    static const uint32_t named[] = {
+        JIVASZTE_CALL_ANNOUNCE, 0, 0, 0, JIVASZTE_CALL_INSTANT, 2, 0, 4096, JIVASZTE_CALL_ASK, 2, 1, 4096,
+        JIVASZTE_CALL_INSTANT, 1, 1, 10241, JIVASZTE_CALL_ASK, 2, 1, 10240, JIVASZTE_CALL_ANNOUNCE, 3, 1, 10241,
     };
     static const uint32_t unknown[] = { JIVASZTE_CALL_WITHDRAW + 1, 0, 0, 0 };
     uint32_t noise = 0;
@@ -184,6 +192,8 @@ int main(void)
     perform("six calls", 1, 0, calls, 24);
     perform("an asked change, committed too early and then a sample late", 1, 2, asks, 24);
     perform("an asked change, withdrawn, and an announced one", 1, 2, drops, 24);
+    perform("from order 1 to 3, to 1 and to 2", 1, 1, orders, 24);
+    perform("an order that is not there, delays of another order, a change that waits", 1, 1, named, 24);
     perform("a block on the voice of a refused opening", 0, 0, calls, 4);
     perform("a call cut short", 1, 0, calls, 7);
     perform("a call of no kind", 1, 0, unknown, 4);

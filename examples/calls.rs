@@ -1,5 +1,5 @@
 //! Each routine of include/jivaszte.h called from Rust, refused too. Prints examples/calls.txt, as calls.c does.
-use jivaszte::{Opening, Refusal};
+use jivaszte::{Call, Opening, Refusal};
 use std::fmt::Display;
 
 /// What a call returned, in words that calls.c prints too.
@@ -92,9 +92,25 @@ fn main() {
     let waits = [1, 4, 3, 0, 0, 16, 0, 128, 1, 2, 0, 2, 5, 0, 3, 3, 0, 6, 0];
     let every = [255, 1, 2, 3, 4, 5, 6, 7, 8, 9, 10, 11, 12, 13, 14, 99];
     let seed = [64, 1, 2];
-    let calls = [0, 6, 6, 0, 0, 1, 2, 0, 1, 65_536, 0, 0, 4, 1, 4096, 0, 3, 2, 6145, 0, 0, 1, 1, 0];
-    let asks = [0, 2, 2, 0, 5, 2, 6144, 0, 6, 0, 0, 0, 0, 3, 3, 0, 6, 0, 0, 0, 0, 3, 3, 0];
-    let drops = [5, 2, 6144, 0, 0, 8, 8, 0, 7, 0, 0, 0, 6, 0, 0, 0, 3, 2, 6144, 0, 7, 0, 0, 0];
+    let calls = [0, 6, 6, 0, 0, 1, 2, 0, 1, 65_536, 0, 0, 4, 1, 1, 4096, 3, 1, 2, 6145, 0, 1, 1, 0];
+    let asks = [0, 2, 2, 0, 5, 1, 2, 6144, 6, 0, 0, 0, 0, 3, 3, 0, 6, 0, 0, 0, 0, 3, 3, 0];
+    let drops = [5, 1, 2, 6144, 0, 8, 8, 0, 7, 0, 0, 0, 6, 0, 0, 0, 3, 1, 2, 6144, 7, 0, 0, 0];
+    let orders = Call::list(&[
+        Call::Announce { order: 3, length: 1, delay: 10_241 },
+        Call::Block { input: 5, output: 5 },
+        Call::Instant { order: 1, length: 1, delay: 6_144 },
+        Call::Ask { order: 2, length: 1, delay: 6_145 },
+        Call::Block { input: 3, output: 3 },
+        Call::Commit,
+    ]);
+    let named = Call::list(&[
+        Call::Announce { order: 0, length: 0, delay: 0 },
+        Call::Instant { order: 2, length: 0, delay: 4_096 },
+        Call::Ask { order: 2, length: 1, delay: 4_096 },
+        Call::Instant { order: 1, length: 1, delay: 10_241 },
+        Call::Ask { order: 2, length: 1, delay: 10_240 },
+        Call::Announce { order: 3, length: 1, delay: 10_241 },
+    ]);
     let mut noise = 0;
 
     coefficients(1, 2979);
@@ -133,6 +149,8 @@ fn main() {
     perform("six calls", 1, 0, &calls);
     perform("an asked change, committed too early and then a sample late", 1, 2, &asks);
     perform("an asked change, withdrawn, and an announced one", 1, 2, &drops);
+    perform("from order 1 to 3, to 1 and to 2", 1, 1, &orders);
+    perform("an order that is not there, delays of another order, a change that waits", 1, 1, &named);
     perform("a block on the voice of a refused opening", 0, 0, &calls[..4]);
     perform("a call cut short", 1, 0, &calls[..7]);
     perform("a call of no kind", 1, 0, &[8, 0, 0, 0]);

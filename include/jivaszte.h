@@ -132,17 +132,18 @@ size_t jivaszte_record(const uint8_t *score, size_t length, uint32_t fields[JIVA
        block      how many samples it takes from the input, the length of the output that it is lent
        loss       G
        pluck      amplitude, count, seed
-       announce   length, delay
-       instant    length, delay
-       ask        length, delay
+       announce   order, length, delay
+       instant    order, length, delay
+       ask        order, length, delay
        commit     nothing
        withdraw   nothing
-   An announced change takes effect when its second copy of the filter has taken as many samples as the advance. An asked
-   one waits for its commit, also with an advance of 0, and its second copy takes each sample until then; a commit puts it
-   in force before the next sample, and a withdrawal drops it. One change waits at a time: an announced, instant or asked
-   one is refused by 6 while an announced or asked one waits. A commit is refused by 21 where no asked change waits, and
-   then by 20 where fewer samples than the advance were put out since the ask; a withdrawal by 21. An announced change
-   counts there as nothing asked.
+   A change may name another order than the one in force; the line and the last output carry over. An announced change
+   takes effect when its second copy of the filter has taken as many samples as the advance. An asked one waits for its
+   commit, also with an advance of 0, and its second copy takes each sample until then; a commit puts it in force before
+   the next sample, and a withdrawal drops it. All three are refused by 1, 2 and 3, the delay being tested with the order
+   that the change names, and then by 6 while an announced or asked change waits: one waits at a time. A commit is refused
+   by 21 where no asked change waits, and then by 20 where fewer samples than the advance were put out since the ask; a
+   withdrawal by 21. An announced change counts there as nothing asked.
    What a block puts out follows in the output what the blocks before it put out; a refused block takes its input and puts
    out nothing. numbers has what each call returned, opening what the opening returned, which makes a voice also where
    it refuses; written is how many samples the calls put out. Refuses by 31, before anything is done, where the words are
@@ -161,9 +162,10 @@ uint32_t jivaszte_perform(uint32_t order, uint32_t length, uint32_t delay, uint3
                           const uint32_t *words, size_t count, const int32_t *input, size_t samples, int32_t *output,
                           size_t room, uint32_t *numbers, size_t places, uint32_t *opening, size_t *written);
 
-/* Plays a score on a voice of its own. Refuses by 14, those of the opening (1, 2, 3, 5), and at a record by 14, 15,
-   16, 2, 3, 6, 7, 8. place is the index of the record that was refused, the count of records after success, and 0 for
-   the header; written is how many samples of the output the run has filled, also where it was refused. */
+/* Plays a score on a voice of its own, whose order its changes keep. Refuses by 14, those of the opening (1, 2, 3, 5),
+   and at a record by 14, 15, 16, 2, 3, 6, 7, 8. place is the index of the record that was refused, the count of records
+   after success, and 0 for the header; written is how many samples of the output the run has filled, also where it was
+   refused. */
 uint32_t jivaszte_run(const uint8_t *score, size_t length, int32_t *output, size_t room, size_t *place, size_t *written);
 
 /* How many bytes a WAV file of so many samples has: the header, three bytes a sample, and a pad byte. */

@@ -1,19 +1,20 @@
 //! The calls on an open voice, as values, so that a list of calls can be kept and made again.
 
 use crate::refusal::Answer;
+use crate::tuning::Tuning;
 use crate::voice::Voice;
 
 /// What every place of a lent output holds before the call, so that untouched places show.
 pub const UNTOUCHED: i32 = 77;
 
-/// A call on a voice with its arguments.
+/// A call on a voice with its arguments. "every change names" the order (document 02, L6).
 #[derive(Clone, Debug)]
 pub enum Call {
     Loss { loss: u32 },
     Pluck { amplitude: u32, count: u32, seed: u32 },
-    Announced { length: u32, delay: u32 },
-    Instant { length: u32, delay: u32 },
-    Asked { length: u32, delay: u32 },
+    Announced { to: Tuning },
+    Instant { to: Tuning },
+    Asked { to: Tuning },
     Commit,
     Withdraw,
     Block { input: Vec<i32>, places: usize },
@@ -36,13 +37,9 @@ impl Call {
             Call::Pluck { amplitude, count, seed } => {
                 made.answer = voice.start_pluck(*amplitude, *count, *seed);
             }
-            Call::Announced { length, delay } => {
-                made.answer = voice.announced_change(*length, *delay);
-            }
-            Call::Instant { length, delay } => {
-                (made.answer, made.count) = voice.instant_change(*length, *delay);
-            }
-            Call::Asked { length, delay } => made.answer = voice.ask(*length, *delay),
+            Call::Announced { to } => made.answer = voice.announced_change(*to),
+            Call::Instant { to } => (made.answer, made.count) = voice.instant_change(*to),
+            Call::Asked { to } => made.answer = voice.ask(*to),
             Call::Commit => made.answer = voice.commit(),
             Call::Withdraw => made.answer = voice.withdraw(),
             Call::Block { input, places } => {

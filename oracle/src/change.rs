@@ -1,22 +1,20 @@
-//! The announced, the asked and the instant change of L and d, with their eliminator.
+//! The announced, the asked and the instant change of order, L and d, with their eliminator.
 
 use crate::allpass::Allpass;
 use crate::refusal::{require, Answer, Refusal};
-use crate::thiran::test_delay;
-use crate::voice::{s_at, test_length, Kind, Tuning, Voice, Waiting};
+use crate::tuning::Tuning;
+use crate::voice::{s_at, Kind, Voice, Waiting};
 
 impl Waiting {
     /// A change whose eliminator is at rest and has taken nothing.
-    fn at_rest(kind: Kind, order: u32, length: u32, delay: u32) -> Waiting {
-        let filter = Allpass::at_rest(order, delay);
-        let tuning = Tuning { length, delay, filter };
-        Waiting { kind, tuning, taken: 0 }
+    fn at_rest(kind: Kind, tuning: Tuning) -> Waiting {
+        Waiting { kind, tuning, eliminator: tuning.at_rest(), taken: 0 }
     }
 
     /// "its eliminator takes s(n − L')": the eliminator's own length, at step `n`.
     pub fn take(&mut self, s: &[i128], n: i128) {
         let f = s_at(s, n - i128::from(self.tuning.length));
-        self.tuning.filter.eliminate(f);
+        self.eliminator.eliminate(f);
         self.taken += 1;
     }
 
@@ -27,12 +25,19 @@ impl Waiting {
 }
 
 impl Voice {
-    /// "Announced and instant change: 2, 3, then 6 a change waits." "Asking tests what a change
-    /// tests". "A change that was asked for counts as waiting."
-    fn test_change(&self, length: u32, d: u32) -> Answer {
-        test_length(length)?;
-        test_delay(self.order, d)?;
+    /// "Announced and instant change: 2, 3, then 6 a change waits." "A change now tests 1 before 2", and 3
+    /// with the order that it names (document 02, L6). "Asking tests what a change tests". "A change that
+    /// was asked for counts as waiting."
+    fn test_change(&self, to: Tuning) -> Answer {
+        to.test()?;
         require(self.waiting.is_none(), Refusal::ChangeWaits)
+    }
+
+    /// "L', d' and its state replace the voice's", and so does its order. "The line and last output carry
+    /// over" (document 02, L6).
+    fn replace(&mut self, tuning: Tuning, eliminator: Allpass) {
+        self.tuning = tuning;
+        self.filter = eliminator;
     }
 
     /// "If the eliminator has now taken Na samples, L', d' and its state replace the voice's". "An
@@ -43,23 +48,23 @@ impl Voice {
         let is_ready =
             |change: &mut Waiting| change.kind == Kind::Announced && change.taken == advance;
         if let Some(change) = self.waiting.take_if(is_ready) {
-            self.tuning = change.tuning;
+            self.replace(change.tuning, change.eliminator);
         }
     }
 
     /// "An announced change starts its eliminator at rest; with Na = 0 it takes effect in the call,
     /// from rest, and never waits." Refused, "The voice is unchanged".
-    pub fn announced_change(&mut self, length: u32, d: u32) -> Answer {
-        self.test_change(length, d)?;
-        self.waiting = Some(Waiting::at_rest(Kind::Announced, self.order, length, d));
+    pub fn announced_change(&mut self, to: Tuning) -> Answer {
+        self.test_change(to)?;
+        self.waiting = Some(Waiting::at_rest(Kind::Announced, to));
         self.put_in_force();
         Ok(())
     }
 
     /// "Asking starts the eliminator", which "waits even with Na 0".
-    pub fn ask(&mut self, length: u32, d: u32) -> Answer {
-        self.test_change(length, d)?;
-        self.waiting = Some(Waiting::at_rest(Kind::Asked, self.order, length, d));
+    pub fn ask(&mut self, to: Tuning) -> Answer {
+        self.test_change(to)?;
+        self.waiting = Some(Waiting::at_rest(Kind::Asked, to));
         Ok(())
     }
 
@@ -74,7 +79,8 @@ impl Voice {
     pub fn commit(&mut self) -> Answer {
         let change = self.asked()?;
         require(change.taken >= self.advance, Refusal::CommitEarly)?;
-        self.tuning = change.tuning.clone();
+        let (tuning, eliminator) = (change.tuning, change.eliminator.clone());
+        self.replace(tuning, eliminator);
         self.waiting = None;
         Ok(())
     }
@@ -89,17 +95,17 @@ impl Voice {
     /// "An instant change before step n runs a resting eliminator over s(k − L') for k = n − Na to
     /// n − 1, then replaces L, d and the state; it also returns the number of samples run, which is
     /// Na." Refused, "The voice is unchanged; the instant change counts 0."
-    pub fn instant_change(&mut self, length: u32, d: u32) -> (Answer, u32) {
-        let answer = self.test_change(length, d);
+    pub fn instant_change(&mut self, to: Tuning) -> (Answer, u32) {
+        let answer = self.test_change(to);
         if answer.is_err() {
             return (answer, 0);
         }
         let n = self.s.len() as i128;
-        let mut change = Waiting::at_rest(Kind::Announced, self.order, length, d);
+        let mut change = Waiting::at_rest(Kind::Announced, to);
         for k in n - i128::from(self.advance)..n {
             change.take(&self.s, k);
         }
-        self.tuning = change.tuning;
+        self.replace(to, change.eliminator);
         (answer, change.taken)
     }
 }

@@ -1,22 +1,21 @@
 //! Section "The click figure": demand 3, checked on a list of calls.
 
-use crate::allpass::Allpass;
 use crate::call::Call;
+use crate::tuning::Tuning;
 use crate::voice::{s_at, Voice};
 
-/// An accepted change to L' and d' with e, the step before which it takes effect, and the number of
-/// samples that its second copy took before: Na, or for a committed one "the number of samples the
-/// eliminator actually took, those put out between asking and committing".
+/// An accepted change to a tuning N', L', d' with e, the step before which it takes effect, and the
+/// number of samples that its second copy took before: Na, or for a committed one "the number of
+/// samples the eliminator actually took, those put out between asking and committing".
 #[derive(Clone, Debug)]
 pub struct Change {
-    pub length: u32,
-    pub delay: u32,
+    pub to: Tuning,
     pub effect: usize,
     pub taken: usize,
 }
 
-/// A list of calls made from what Open returned: N, Na, every s(n), the samples y(m) that the
-/// blocks wrote, and the accepted changes in the order called, a committed one at its commit.
+/// A list of calls made from what Open returned: its order and Na, every s(n), the samples y(m) that
+/// the blocks wrote, and the accepted changes in the order called, a committed one at its commit.
 #[derive(Clone, Debug)]
 pub struct History {
     pub order: u32,
@@ -26,12 +25,14 @@ pub struct History {
     pub changes: Vec<Change>,
 }
 
-/// How much was compared: changes with at least one step, those of them that were committed after
-/// more samples than Na, the steps of all, the steps at which equality was claimed, and the steps at
-/// which y and the new filter differed.
+/// How much was compared: changes with at least one step, those of them to a higher and to a lower
+/// order, those that were committed after more samples than Na, the steps of all, the steps at which
+/// equality was claimed, and the steps at which y and the new filter differed.
 #[derive(Clone, Copy, Debug, Default)]
 pub struct Tally {
     pub changes: u64,
+    pub raised: u64,
+    pub lowered: u64,
     pub late: u64,
     pub steps: u64,
     pub equal: u64,
@@ -39,7 +40,8 @@ pub struct Tally {
 }
 
 /// The greatest difference allowed: with k = floor((Na + j)/N), 3·2^(23 − k) where k is at most
-/// 23, and 2 where k is larger. Of a committed change the samples taken stand "in place of Na".
+/// 23, and 2 where k is larger. Of a committed change the samples taken stand "in place of Na". "The
+/// bound is read with the order of the incoming filter" (document 02, L6).
 pub fn figure(order: u32, taken: usize, j: usize) -> i128 {
     let k = (taken + j) / order as usize;
     if k <= 23 {
@@ -65,23 +67,22 @@ pub fn history(opened: &Voice, list: &[Call]) -> History {
             continue;
         }
         match *call {
-            Call::Announced { length, delay } => {
-                changes.push(Change { length, delay, effect: c + advance, taken: advance });
+            Call::Announced { to } => {
+                changes.push(Change { to, effect: c + advance, taken: advance });
             }
-            Call::Instant { length, delay } => {
-                changes.push(Change { length, delay, effect: c, taken: advance });
-            }
-            Call::Asked { length, delay } => asked = Some((length, delay, c)),
+            Call::Instant { to } => changes.push(Change { to, effect: c, taken: advance }),
+            Call::Asked { to } => asked = Some((to, c)),
             Call::Commit => {
-                let (length, delay, began) = asked.take().expect("an accepted commit has its ask");
-                changes.push(Change { length, delay, effect: c, taken: c - began });
+                let (to, began) = asked.take().expect("an accepted commit has its ask");
+                changes.push(Change { to, effect: c, taken: c - began });
             }
             Call::Withdraw => asked = None,
             Call::Block { .. } => y.extend(made.output.iter().map(|sample| i128::from(*sample))),
             Call::Loss { .. } | Call::Pluck { .. } => {}
         }
     }
-    History { order: voice.order, advance: voice.advance, s: voice.s, y, changes }
+    let order = opened.tuning.order;
+    History { order, advance: voice.advance, s: voice.s, y, changes }
 }
 
 impl History {
@@ -90,50 +91,61 @@ impl History {
     /// is zero.
     fn read_zeros(&self, change: &Change) -> bool {
         let steps = change.effect.saturating_sub(change.taken);
-        let length = i128::from(change.length);
+        let length = i128::from(change.to.length);
         (0..steps as i128).all(|i| s_at(&self.s, i - length) == 0)
     }
 
-    /// "The new filter has the change's L' and d', is at rest before step 0 and takes s(m − L') at
-    /// every step m from 0. What is compared is y at step m". From e to before step `end`.
+    /// "The new filter has the change's L' and d'", and its order, "is at rest before step 0 and takes
+    /// s(m − L') at every step m from 0. What is compared is y at step m". From e to before step `end`.
     fn compare(&self, change: &Change, end: usize, tally: &mut Tally) -> Result<(), String> {
         let equal = self.read_zeros(change);
-        let mut new_filter = Allpass::at_rest(self.order, change.delay);
+        let Tuning { order, length, delay } = change.to;
+        let mut new_filter = change.to.at_rest();
         for m in 0..end {
-            let new = new_filter.filter(s_at(&self.s, m as i128 - i128::from(change.length)));
+            let new = new_filter.filter(s_at(&self.s, m as i128 - i128::from(length)));
             if m < change.effect {
                 continue;
             }
             let allowed = match equal {
                 true => 0,
-                false => figure(self.order, change.taken, m - change.effect),
+                false => figure(order, change.taken, m - change.effect),
             };
             let difference = (self.y[m] - new).abs();
             if difference > allowed {
-                let (length, delay, e) = (change.length, change.delay, change.effect);
                 return Err(format!(
-                    "change to L {length}, d {delay} with e {e}: at step {m} y is {}, the new \
-                     filter gives {new}, allowed is {allowed}",
-                    self.y[m]
+                    "change to order {order}, L {length}, d {delay} with e {}: at step {m} y is {}, \
+                     the new filter gives {new}, allowed is {allowed}",
+                    change.effect, self.y[m]
                 ));
             }
             tally.steps += 1;
             tally.equal += u64::from(equal);
             tally.differing += u64::from(difference > 0);
         }
-        let compared = change.effect < end;
-        tally.changes += u64::from(compared);
-        tally.late += u64::from(compared && change.taken > self.advance as usize);
         Ok(())
+    }
+
+    /// Counts a change from this order that has at least one step.
+    fn count(&self, change: &Change, from: u32, tally: &mut Tally) {
+        tally.changes += 1;
+        tally.raised += u64::from(change.to.order > from);
+        tally.lowered += u64::from(change.to.order < from);
+        tally.late += u64::from(change.taken > self.advance as usize);
     }
 
     /// Demand 3 for every change, from its effect to before the next one's. "Where two have the
     /// same e, the one called later is in force": the earlier one has no step. No change is
     /// accepted while another waits, so that e never falls along the list.
     pub fn check(&self, tally: &mut Tally) -> Result<(), String> {
+        let mut order = self.order;
         for (index, change) in self.changes.iter().enumerate() {
             let next = self.changes.get(index + 1).map_or(self.y.len(), |next| next.effect);
-            self.compare(change, next.min(self.y.len()), tally)?;
+            let end = next.min(self.y.len());
+            self.compare(change, end, tally)?;
+            if change.effect < end {
+                self.count(change, order, tally);
+            }
+            order = change.to.order;
         }
         Ok(())
     }

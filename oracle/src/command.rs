@@ -1,6 +1,7 @@
 //! The lines that the console reads.
 
 use crate::call::Call;
+use crate::tuning::Tuning;
 
 /// "A block takes up to 4,096 samples in and out".
 pub const BLOCK_LIMIT: u32 = 4_096;
@@ -82,6 +83,11 @@ fn numbers<const COUNT: usize>(words: &[&[u8]]) -> Option<[u32; COUNT]> {
     values.try_into().ok()
 }
 
+/// `N L D`, what a change names.
+fn tuning(words: &[&[u8]]) -> Option<Tuning> {
+    numbers(words).map(|[order, length, delay]| Tuning { order, length, delay })
+}
+
 /// All the words as bytes.
 fn bytes(words: &[&[u8]]) -> Option<Vec<u8>> {
     words.iter().map(|word| byte(word)).collect()
@@ -132,13 +138,9 @@ fn command(name: &[u8], rest: &[&[u8]]) -> Option<Command> {
         b"loss" => numbers(rest).map(|[loss]| Command::Call(Call::Loss { loss })),
         b"pluck" => numbers(rest)
             .map(|[amplitude, count, seed]| Command::Call(Call::Pluck { amplitude, count, seed })),
-        b"announce" => {
-            numbers(rest).map(|[length, delay]| Command::Call(Call::Announced { length, delay }))
-        }
-        b"instant" => {
-            numbers(rest).map(|[length, delay]| Command::Call(Call::Instant { length, delay }))
-        }
-        b"ask" => numbers(rest).map(|[length, delay]| Command::Call(Call::Asked { length, delay })),
+        b"announce" => tuning(rest).map(|to| Command::Call(Call::Announced { to })),
+        b"instant" => tuning(rest).map(|to| Command::Call(Call::Instant { to })),
+        b"ask" => tuning(rest).map(|to| Command::Call(Call::Asked { to })),
         b"commit" => rest.is_empty().then_some(Command::Call(Call::Commit)),
         b"withdraw" => rest.is_empty().then_some(Command::Call(Call::Withdraw)),
         b"block" => block(rest),

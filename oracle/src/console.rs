@@ -10,6 +10,7 @@ use crate::record::read_record;
 use crate::refusal::number;
 use crate::score::run;
 use crate::thiran::coefficients;
+use crate::tuning::Tuning;
 use crate::voice::{s_at, Voice};
 use crate::wav;
 use std::fmt::Display;
@@ -73,23 +74,23 @@ impl Default for Console {
 }
 
 impl Console {
-    /// `state N L D G NA LAST V1 V2 V3 WAITS L' D' TAKEN E1 E2 E3 AMPLITUDE LEFT NOISE`: WAITS is
-    /// the kind, TAKEN is counted up to Na.
+    /// `state N L D G NA LAST V1 V2 V3 KIND N' L' D' TAKEN E1 E2 E3 AMPLITUDE LEFT NOISE`: KIND says
+    /// how a change waits, TAKEN is counted up to Na.
     fn answer_state(&self) -> String {
         let voice = &self.voice;
-        let mut values =
-            [voice.order, voice.tuning.length, voice.tuning.delay].map(i128::from).to_vec();
+        let numbers = |tuning: Tuning| [tuning.order, tuning.length, tuning.delay].map(i128::from);
+        let mut values = numbers(voice.tuning).to_vec();
         values.extend([voice.loss, voice.advance].map(i128::from));
         values.push(voice.last_output());
-        values.extend(three(voice.tuning.filter.state()));
+        values.extend(three(voice.filter.state()));
         match &voice.waiting {
             Some(change) => {
-                let (length, delay) = (change.tuning.length, change.tuning.delay);
-                let taken = change.counted(voice.advance);
-                values.extend([change.kind as u32, length, delay, taken].map(i128::from));
-                values.extend(three(change.tuning.filter.state()));
+                values.push(change.kind as i128);
+                values.extend(numbers(change.tuning));
+                values.push(i128::from(change.counted(voice.advance)));
+                values.extend(three(change.eliminator.state()));
             }
-            None => values.extend([0; 7]),
+            None => values.extend([0; 8]),
         }
         match voice.pluck.left {
             0 => values.extend([0; 3]),

@@ -25,5 +25,6 @@ pub mod rows;
 pub mod score;
 pub mod silence;
 pub mod thiran;
+pub mod tuning;
 pub mod voice;
 pub mod wav;

@@ -74,6 +74,7 @@ fn print_report(report: &Reached) -> Result<(), String> {
     let tally = &report.tally;
     print(&format!("error lines: {}\n", report.errors))?;
     print(&format!("demand 3: changes compared {}, ", tally.changes))?;
+    print(&format!("to a higher order {}, to a lower {}, ", tally.raised, tally.lowered))?;
     print(&format!("committed late {}, steps {}, ", tally.late, tally.steps))?;
     print(&format!("equality claimed at {}, difference at {}\n", tally.equal, tally.differing))
 }

@@ -4,6 +4,7 @@ use crate::call::Call;
 use crate::record::{read_record, take_byte, take_number, Record};
 use crate::record::{AMPLITUDE, COUNT, DELAY, INSTANT, LENGTH, LOSS, SEED, WAIT};
 use crate::refusal::{require, Answer, Refusal};
+use crate::tuning::Tuning;
 use crate::voice::Voice;
 
 /// "it gives a number (0 for success), a place (the record's index from 0; on success the record
@@ -58,17 +59,19 @@ impl Run {
     }
 
     /// "then changes": "an absent L or d beside the other is the one in force; no bit 1 or 2, no
-    /// change". "Bit 7 has no field and makes the change instant."
+    /// change". "Bit 7 has no field and makes the change instant." "Score changes keep the order in force"
+    /// (document 02, L6).
     fn change(&mut self, voice: &mut Voice, record: &Record) -> Answer {
         if !record.has(LENGTH) && !record.has(DELAY) {
             return Ok(());
         }
+        let order = voice.tuning.order;
         let length = record.field(LENGTH).unwrap_or(voice.tuning.length);
         let delay = record.field(DELAY).unwrap_or(voice.tuning.delay);
-        let call = if record.has(INSTANT) {
-            Call::Instant { length, delay }
-        } else {
-            Call::Announced { length, delay }
+        let to = Tuning { order, length, delay };
+        let call = match record.has(INSTANT) {
+            true => Call::Instant { to },
+            false => Call::Announced { to },
         };
         self.call(voice, call, &mut [])
     }

@@ -4,16 +4,7 @@ use crate::allpass::Allpass;
 use crate::number::{clip, cut, is_sample, to_call};
 use crate::pluck::Pluck;
 use crate::refusal::{require, Answer, Refusal};
-use crate::thiran::{test_delay, test_order};
-
-/// A length L, a delay d and the filter with that d. In a waiting change it is L', d' and the
-/// eliminator.
-#[derive(Clone, Debug)]
-pub struct Tuning {
-    pub length: u32,
-    pub delay: u32,
-    pub filter: Allpass,
-}
+use crate::tuning::Tuning;
 
 /// How a waiting change came: announced, or asked for (document 02, L3). The number is the one by
 /// which the console shows it.
@@ -23,11 +14,13 @@ pub enum Kind {
     Asked = 2,
 }
 
-/// "a waiting change", with the number of samples that its eliminator has really taken.
+/// "a waiting change", with its eliminator and the number of samples that this has really taken. "the
+/// one in force and the one waiting may differ" in their order (document 02, L6).
 #[derive(Clone, Debug)]
 pub struct Waiting {
     pub kind: Kind,
     pub tuning: Tuning,
+    pub eliminator: Allpass,
     pub taken: u32,
 }
 
@@ -37,8 +30,8 @@ pub struct Waiting {
 /// last of y; step n is the one that puts s(n) and y(n) at their index n.
 #[derive(Clone, Debug)]
 pub struct Voice {
-    pub order: u32,
     pub tuning: Tuning,
+    pub filter: Allpass,
     pub loss: u32,
     pub advance: u32,
     pub waiting: Option<Waiting>,
@@ -52,41 +45,33 @@ pub fn s_at(s: &[i128], step: i128) -> i128 {
     usize::try_from(step).map_or(0, |index| s[index])
 }
 
-/// "a length L (1 to 2,048)". Refusal 2.
-pub fn test_length(length: u32) -> Answer {
-    require((1..=2_048).contains(&length), Refusal::Length)
-}
-
 /// "a loss G (0 to 65,535, in units of 1/65,536)". Refusal 4.
 fn test_loss(loss: u32) -> Answer {
     require(loss <= 65_535, Refusal::Loss)
 }
 
 /// "Open: 1 order, 2 L, 3 d, 4 G, 5 Na outside the limits."
-fn test_open(order: u32, length: u32, d: u32, loss: u32, advance: u32) -> Answer {
-    test_order(order)?;
-    test_length(length)?;
-    test_delay(order, d)?;
+fn test_open(tuning: Tuning, loss: u32, advance: u32) -> Answer {
+    tuning.test()?;
     test_loss(loss)?;
     require(advance <= 64, Refusal::Advance)
 }
 
 impl Voice {
     /// A voice as it stands before step 0: at rest, "all zero when opened".
-    fn at_rest(order: u32, length: u32, delay: u32, loss: u32, advance: u32) -> Voice {
-        let filter = Allpass::at_rest(order, delay);
-        let tuning = Tuning { length, delay, filter };
+    fn at_rest(tuning: Tuning, loss: u32, advance: u32) -> Voice {
         let (waiting, pluck) = (None, Pluck::default());
         let (s, y) = (Vec::new(), Vec::new());
-        Voice { order, tuning, loss, advance, waiting, pluck, s, y }
+        Voice { tuning, filter: tuning.at_rest(), loss, advance, waiting, pluck, s, y }
     }
 
     /// Open. Refused, "It returns a resting voice of order 1 with L 1, d 4,096, G 0, Na 0."
-    pub fn open(order: u32, length: u32, d: u32, loss: u32, advance: u32) -> (Voice, Answer) {
-        let answer = test_open(order, length, d, loss, advance);
+    pub fn open(order: u32, length: u32, delay: u32, loss: u32, advance: u32) -> (Voice, Answer) {
+        let tuning = Tuning { order, length, delay };
+        let answer = test_open(tuning, loss, advance);
         let voice = match answer {
-            Ok(()) => Voice::at_rest(order, length, d, loss, advance),
-            Err(_) => Voice::at_rest(1, 1, 4_096, 0, 0),
+            Ok(()) => Voice::at_rest(tuning, loss, advance),
+            Err(_) => Voice::at_rest(Tuning { order: 1, length: 1, delay: 4_096 }, 0, 0),
         };
         (voice, answer)
     }
@@ -103,7 +88,7 @@ impl Voice {
         let n = self.s.len() as i128;
         // "1. f = s(n − L). The filter gives the output y(n)."
         let f = s_at(&self.s, n - i128::from(self.tuning.length));
-        let y = self.tuning.filter.filter(f);
+        let y = self.filter.filter(f);
         // "2. If a change to L', d' waits, its eliminator takes s(n − L')."
         if let Some(change) = &mut self.waiting {
             change.take(&self.s, n);

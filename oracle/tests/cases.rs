@@ -11,6 +11,7 @@ fn texts() {
     assert!(report.refusals.iter().all(|count| *count > 0), "{:?}", report.refusals);
     assert!(report.errors > 0 && report.tally.equal > 0 && report.tally.differing > 0);
     assert!(report.tally.late > 20, "{:?}", report.tally);
+    assert!(report.tally.raised > 100 && report.tally.lowered > 100, "{:?}", report.tally);
 }
 
 #[test]
@@ -23,6 +24,7 @@ fn scores() {
         assert!(report.refusals[number] > 0, "{number}");
     }
     assert!(report.tally.equal > 0 && report.tally.differing > 0);
+    assert_eq!((report.tally.raised, report.tally.lowered), (0, 0), "scores keep the order");
 }
 
 #[test]

@@ -3,11 +3,16 @@
 use oracle::allpass::Allpass;
 use oracle::call::Call;
 use oracle::click::{figure, history, History, Tally};
+use oracle::tuning::Tuning;
 use oracle::voice::Voice;
 
 /// A block of so many zeros.
 fn zeros(count: usize) -> Call {
     Call::Block { input: vec![0; count], places: count }
+}
+
+fn tuning(order: u32, length: u32, delay: u32) -> Tuning {
+    Tuning { order, length, delay }
 }
 
 /// A sounding voice of order 2 with one change of each kind.
@@ -16,9 +21,9 @@ fn sounding(advance: u32) -> History {
     let list = [
         Call::Pluck { amplitude: 200, count: 300, seed: 5 },
         zeros(300),
-        Call::Announced { length: 17, delay: 6_200 },
+        Call::Announced { to: tuning(2, 17, 6_200) },
         zeros(200),
-        Call::Instant { length: 3, delay: 10_000 },
+        Call::Instant { to: tuning(2, 3, 10_000) },
         zeros(100),
     ];
     history(&voice, &list)
@@ -69,7 +74,7 @@ fn a_cleared_state_is_found() {
 fn equality_is_claimed_over_zeros() {
     let (voice, _) = Voice::open(1, 3, 3_000, 65_535, 8);
     let mut list = vec![zeros(50), Call::Pluck { amplitude: 255, count: 9, seed: 1 }];
-    list.extend([Call::Announced { length: 5, delay: 6_000 }, zeros(40)]);
+    list.extend([Call::Announced { to: tuning(1, 5, 6_000) }, zeros(40)]);
     let mut history = history(&voice, &list);
     let mut tally = Tally::default();
     assert_eq!(history.check(&mut tally), Ok(()));
@@ -83,7 +88,7 @@ fn equality_is_claimed_over_zeros() {
 fn the_later_of_two_changes_is_compared() {
     let (voice, _) = Voice::open(1, 3, 3_000, 65_535, 0);
     let mut list = vec![Call::Block { input: vec![1_000_000, 0, 0, 0], places: 4 }];
-    list.extend([2, 4].map(|length| Call::Announced { length, delay: 5_000 }));
+    list.extend([2, 4].map(|length| Call::Announced { to: tuning(1, length, 5_000) }));
     list.push(zeros(30));
     let history = history(&voice, &list);
     let mut tally = Tally::default();

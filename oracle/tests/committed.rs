@@ -3,6 +3,7 @@
 use oracle::allpass::Allpass;
 use oracle::call::Call;
 use oracle::click::{figure, history, History, Tally};
+use oracle::tuning::Tuning;
 use oracle::voice::Voice;
 
 /// A block of so many zeros.
@@ -16,10 +17,10 @@ fn committed(advance: u32, taken: usize) -> History {
     let list = [
         Call::Pluck { amplitude: 200, count: 300, seed: 5 },
         zeros(300),
-        Call::Asked { length: 11, delay: 9_000 },
+        Call::Asked { to: Tuning { order: 2, length: 11, delay: 9_000 } },
         zeros(5),
         Call::Withdraw,
-        Call::Asked { length: 17, delay: 10_000 },
+        Call::Asked { to: Tuning { order: 2, length: 17, delay: 10_000 } },
         zeros(taken),
         Call::Commit,
         zeros(100),
@@ -37,7 +38,7 @@ fn a_late_commit_only_tightens_it() {
         assert_eq!((tally.changes, tally.steps), (1, 100));
         assert_eq!(tally.late, u64::from(taken > advance as usize));
         let [change] = &history.changes[..] else { panic!("one change") };
-        assert_eq!((change.length, change.effect, change.taken), (17, 305 + taken, taken));
+        assert_eq!((change.to.length, change.effect, change.taken), (17, 305 + taken, taken));
         let least = figure(2, taken, 0);
         history.y[305 + taken] += 2 * least + 1;
         assert!(history.check(&mut Tally::default()).is_err(), "Na {advance}, taken {taken}");
@@ -67,7 +68,7 @@ fn equality_is_claimed_over_zeros_before_the_ask() {
     let list = [
         zeros(50),
         Call::Pluck { amplitude: 255, count: 9, seed: 1 },
-        Call::Asked { length: 5, delay: 6_000 },
+        Call::Asked { to: Tuning { order: 1, length: 5, delay: 6_000 } },
         zeros(90),
         Call::Commit,
         zeros(40),

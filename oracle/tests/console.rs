@@ -12,30 +12,32 @@ fn assert_answers(lines: &[(&str, &str)]) {
 #[test]
 fn a_voice() {
     assert_answers(&[
-        ("state", "state 1 1 4096 0 0 0 0 0 0 0 0 0 0 0 0 0 0 0 0"),
+        ("state", "state 1 1 4096 0 0 0 0 0 0 0 0 0 0 0 0 0 0 0 0 0"),
         ("open 1 3 4096 32768 2", "open 0"),
         ("block 6 1000 0 0 0 0 0", "block 0 0 0 0 0 1000 0"),
         ("line 3", "line 250 250 0"),
         ("line 0", "line"),
-        ("announce 2 6144", "announce 0"),
-        ("instant 2 6144", "instant 6 0"),
+        ("announce 1 2 6144", "announce 0"),
+        ("instant 1 2 6144", "instant 6 0"),
         ("pluck 1 3 0", "pluck 0"),
         ("block 1 0", "block 0 0"),
-        ("state", "state 1 3 4096 32768 2 0 0 0 0 1 2 6144 1 250 0 0 1 2 1013904223"),
+        ("state", "state 1 3 4096 32768 2 0 0 0 0 1 1 2 6144 1 250 0 0 1 2 1013904223"),
         ("block 2 0", "block 9 77 77"),
         ("block 1 8388608", "block 10 77"),
         ("loss 65536", "loss 4"),
         ("open 1 0 4096 32768 2", "open 2"),
-        ("ask 0 2049", "ask 2"),
-        ("ask 7 2049", "ask 0"),
+        ("ask 0 0 2049", "ask 1"),
+        ("ask 1 0 2049", "ask 2"),
+        ("ask 2 7 2049", "ask 3"),
+        ("ask 1 7 2049", "ask 0"),
         ("withdraw", "withdraw 0"),
         ("withdraw", "withdraw 21"),
         ("commit", "commit 21"),
-        ("ask 9 2049", "ask 0"),
-        ("state", "state 1 1 4096 0 0 0 0 0 0 2 9 2049 0 0 0 0 0 0 0"),
+        ("ask 1 9 2049", "ask 0"),
+        ("state", "state 1 1 4096 0 0 0 0 0 0 2 1 9 2049 0 0 0 0 0 0 0"),
         ("commit", "commit 0"),
-        ("instant 7 2049", "instant 0 0"),
-        ("state", "state 1 7 2049 0 0 0 0 0 0 0 0 0 0 0 0 0 0 0 0"),
+        ("instant 1 7 2049", "instant 0 0"),
+        ("state", "state 1 7 2049 0 0 0 0 0 0 0 0 0 0 0 0 0 0 0 0 0"),
     ]);
 }
 
@@ -61,9 +63,9 @@ fn routines() {
 fn lines_that_are_not_right() {
     let text = "\n# nothing\nopen 1 2 3\n \t\nstate # yes\nblock 1 +1\nblock 1 -\nline 2113\n\
                 block 4097\nrun 16385\nrecord 1\ndraw 4294967296\nDraw 1\ncommit 1\n\
-                withdraw 0\nask 3\nwavread\nhelp 1\nloss 007";
+                withdraw 0\nask 3 1\nwavread\nhelp 1\nannounce 1 2\ninstant 1 2 3 4\nloss 007";
     let expected = "error 3 open takes N L D G NA\n\
-                    state 1 1 4096 0 0 0 0 0 0 0 0 0 0 0 0 0 0 0 0\n\
+                    state 1 1 4096 0 0 0 0 0 0 0 0 0 0 0 0 0 0 0 0 0\n\
                     error 6 block takes OUT X1 X2 .. (at most 4096 each)\n\
                     error 7 block takes OUT X1 X2 .. (at most 4096 each)\n\
                     error 8 line takes K (at most 2112)\n\
@@ -74,9 +76,11 @@ fn lines_that_are_not_right() {
                     error 13 no call has this name: help lists them\n\
                     error 14 commit takes nothing\n\
                     error 15 withdraw takes nothing\n\
-                    error 16 ask takes L D\n\
+                    error 16 ask takes N L D\n\
                     error 17 wavread takes ROOM B1 B2 .. (ROOM at most 4096)\n\
                     error 18 help takes nothing\n\
+                    error 19 announce takes N L D\n\
+                    error 20 instant takes N L D\n\
                     loss 0\n";
     assert_eq!(answers(text.as_bytes()), expected);
 }

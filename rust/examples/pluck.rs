@@ -20,7 +20,7 @@ fn main() -> Result<(), Box<dyn std::error::Error>> {
     let calls = [
         Call::Pluck { amplitude: 180, count: 200, seed: 7 },
         wait(0.8),
-        Call::Announce { length: e4.0, delay: e4.1 },
+        Call::Announce { order: ORDER, length: e4.0, delay: e4.1 },
         wait(0.8),
         Call::Loss(63_000),
         wait(0.4),

@@ -28,16 +28,21 @@ pub enum Call {
         count: u32,
         seed: u32,
     },
+    /// A change that takes effect when its second copy of the filter has taken as many samples as the advance.
+    /// Each change names an order, which may be another one than that in force.
     Announce {
+        order: u32,
         length: u32,
         delay: u32,
     },
     Instant {
+        order: u32,
         length: u32,
         delay: u32,
     },
     /// A change that waits for its commit.
     Ask {
+        order: u32,
         length: u32,
         delay: u32,
     },
@@ -54,9 +59,9 @@ impl Call {
             Call::Block { input, output } => [0, input, output, 0],
             Call::Loss(loss) => [1, loss, 0, 0],
             Call::Pluck { amplitude, count, seed } => [2, amplitude, count, seed],
-            Call::Announce { length, delay } => [3, length, delay, 0],
-            Call::Instant { length, delay } => [4, length, delay, 0],
-            Call::Ask { length, delay } => [5, length, delay, 0],
+            Call::Announce { order, length, delay } => [3, order, length, delay],
+            Call::Instant { order, length, delay } => [4, order, length, delay],
+            Call::Ask { order, length, delay } => [5, order, length, delay],
             Call::Commit => [6, 0, 0, 0],
             Call::Withdraw => [7, 0, 0, 0],
         }

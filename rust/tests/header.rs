@@ -86,9 +86,9 @@ fn every_call_has_the_kind_of_the_header() {
         ("BLOCK", Call::Block { input: 1, output: 2 }, [1, 2, 0]),
         ("LOSS", Call::Loss(1), [1, 0, 0]),
         ("PLUCK", Call::Pluck { amplitude: 1, count: 2, seed: 3 }, [1, 2, 3]),
-        ("ANNOUNCE", Call::Announce { length: 1, delay: 2 }, [1, 2, 0]),
-        ("INSTANT", Call::Instant { length: 1, delay: 2 }, [1, 2, 0]),
-        ("ASK", Call::Ask { length: 1, delay: 2 }, [1, 2, 0]),
+        ("ANNOUNCE", Call::Announce { order: 1, length: 2, delay: 3 }, [1, 2, 3]),
+        ("INSTANT", Call::Instant { order: 1, length: 2, delay: 3 }, [1, 2, 3]),
+        ("ASK", Call::Ask { order: 1, length: 2, delay: 3 }, [1, 2, 3]),
         ("COMMIT", Call::Commit, [0, 0, 0]),
         ("WITHDRAW", Call::Withdraw, [0, 0, 0]),
     ];

@@ -14,8 +14,9 @@ pub const PROMISES: [Promise; 8] = [
         words: "However a string is played, with whatever values and in whatever order: after a change \
                 of pitch no sample is further from that of a filter which had been there since the \
                 beginning than 3 × 2^(23 − k), and than 2 from k = 24 on. Here k is the advance and the \
-                samples since the change, together, divided by the order of the filter; of a change that \
-                was asked for and committed, the samples between the two take the place of the advance.",
+                samples since the change, together, divided by the order of the new filter, whatever it was \
+                before; of a change that was asked for and committed, the samples between the two take the \
+                place of the advance.",
         theorem: "click",
         proof: "crates/rule/proofs/Click.antt",
         states: "Click",

@@ -14,8 +14,8 @@ use Rattle.allpass.specs.Allpass.{run}
 use Rattle.allpass.specs.Bounds.{Within}
 use Rattle.line.specs.Ring.{ring}
 use Rattle.rule.specs.Voice as Rule
-use Rattle.rule.specs.Voice.{Voice, A, commits, tuned, settled}
-use Rattle.rule.specs.Calls.{Call, prepare, instant, number, window, start, to, done, count}
+use Rattle.rule.specs.Voice.{Voice, tuning, A, commits, tuned, settled}
+use Rattle.rule.specs.Calls.{Call, prepare, instant, number, window, start, done, count}
 use Rattle.rule.specs.State.{back}
 use Rattle.voice.specs.declared.Tuning.{Tuning}
 use Rattle.voice.specs.declared.Filter.{Filter}
@@ -41,34 +41,36 @@ module _ (v : Voice) (w : Rule.Waiting) where
   unfolding settled
   settled-later e = rw e
 
-module _ (v : Voice) (L d : ℕ) where
-  pub count-refused : {n : ℕ} → n ≡ number v (instant L d) → (n ≡ 0 → ⊥) → 0 ≡ count v (instant L d)
+module _ (v : Voice) (to : Rule.Tuning) where
+  pub count-refused : {n : ℕ} → n ≡ number v (instant to) → (n ≡ 0 → ⊥) → 0 ≡ count v (instant to)
   unfolding count
-  count-refused e f = rw (ne-eqb (number v (instant L d)) 0 (λ z. f (e ∙ z)))
+  count-refused e f = rw (ne-eqb (number v (instant to)) 0 (λ z. f (e ∙ z)))
 
-  pub count-accepted : {n : ℕ} → n ≡ number v (instant L d) → n ≡ 0 → v .Na ≡ count v (instant L d)
+  pub count-accepted : {n : ℕ} → n ≡ number v (instant to) → n ≡ 0 → v .Na ≡ count v (instant to)
   unfolding count
-  count-accepted e z = rw (eq-eqb (number v (instant L d)) 0 (sym e ∙ z))
+  count-accepted e z = rw (eq-eqb (number v (instant to)) 0 (sym e ∙ z))
 
 -- ---- in the structs of the code
-module _ {h : Head} {L d : ℕ} {e : Filter} (k : Fit h) (r : Rests (h .filter .tuning .order) L d e) where
+module _ {h : Head} {N L d : ℕ} {e : Filter} (k : Fit h) (r : Rests N L d e) where
+  abbrev to : Rule.Tuning
+  to = tuning N L d
+
   -- prepared as the kind i is: in force at once, or waiting
-  pub changes-prepared : {n : ℕ} (i : Kind) → n ≡ number (voiceOf h) (prepare (kindOf i) L d) → n ≡ 0
-      → Called h (prepare (kindOf i) L d) (record { refusal = 0; head = settledOf h i e 0 })
+  pub changes-prepared : {n : ℕ} (i : Kind) → n ≡ number (voiceOf h) (prepare (kindOf i) to) → n ≡ 0
+      → Called h (prepare (kindOf i) to) (record { refusal = 0; head = settledOf h i e 0 })
   unfolding done
   changes-prepared i n z = go (commits (kindOf i) 0 (h .advance)) refl
     where
       c : Call
-      c = prepare (kindOf i) L d
+      c = prepare (kindOf i) to
 
       w : Rule.Waiting
-      w = start (kindOf i) (to (voiceOf h) L d)
+      w = start (kindOf i) to
 
       waits : commits (kindOf i) 0 (h .advance) ≡ false
-          → Preparing (h .filter .tuning .order) (h .advance) i e 0
+          → Preparing (h .advance) i e 0
       waits b = record {
         tuned = r .tuned;
-        same = ap (λ (t : Tuning). t .order) (r .tuning);
         counted = omega arith;
         early = not-yet (kindOf i) 0 (h .advance) (omega arith) b;
       }
@@ -86,18 +88,17 @@ module _ {h : Head} {L d : ℕ} {e : Filter} (k : Fit h) (r : Rests (h .filter .
           (λ q. cc (r .tuning, r .state, settled-later (voiceOf h) w b))
 
   pub changes-instantly : {p : Filter} (l : List ℤ) → Within M (ring (h .at) l)
-      → {n : ℕ} → n ≡ number (voiceOf h) (instant L d) → n ≡ 0
+      → {n : ℕ} → n ≡ number (voiceOf h) (instant to) → n ≡ 0
       → Ran e (window (back (ring (h .at) l)) (e .tuning .length) (h .advance)) p
-      → On h l (instant L d) (record { refusal = 0; head = withOf h p Idle }) l
+      → On h l (instant to) (record { refusal = 0; head = withOf h p Idle }) l
   unfolding done
   changes-instantly {p} l in-line n z ran =
       let a = h .advance in
       let q = back (ring (h .at) l) in
-      let N = h .filter .tuning .order in
       let state =
       ran .state
       ∙ ap (λ (v : List ℤ). run (A (tuningOf (e .tuning))) v (window q (e .tuning .length) a)) (r .state)
       ∙ ap (λ (t : Tuning). run (A (tuningOf t)) (Allpass.rest N) (window q (t .length) a)) (r .tuning) in
       let i = voice-by (withOf h p Idle) (ap tuningOf (ran .tuning ∙ r .tuning)) state in
-      called-on h (instant L d) (withOf h p Idle) refl n z refl
+      called-on h (instant to) (withOf h p Idle) refl n z refl
       (fit-as k (ran .tuned) (k .loss) tt (k .pluck)) l in-line i

@@ -23,7 +23,7 @@ module _ {h : Head} (k : Fit h) where
           → Called h commit (record { refusal = 0; head = committedOf h w })
       go Idle e = called h commit h refl n z refl k (λ q. rw e)
       go (Prepared i f t) e =
-          let p = subst (λ (w : Waiting). Waiting-valid (h .filter .tuning .order) (h .advance) w) e
+          let p = subst (λ (w : Waiting). Waiting-valid (h .advance) w) e
           (k .waiting) in
           called h commit (withOf h f Idle) refl n z refl
           (fit-as k (p .tuned) (k .loss) tt (k .pluck)) (λ q. rw e)

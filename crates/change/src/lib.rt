@@ -1,4 +1,4 @@
-// The changes of length and delay: announced, asked for, and instant.
+// The changes of order, length and delay: announced, asked for, and instant.
 // An eliminator starts at rest; an instant one is run over samples that the line still holds.
 ghost use mathlib.Core.Path.{_≡_};
 ghost use Prim.Native.Nat.{_≤_, _<_};
@@ -8,6 +8,7 @@ ghost use Rattle.rule.specs.Calls.{prepare as Prepare, announce as Announce, as
 ghost use Rattle.rule.specs.Calls.{instant as Instant, count as Count};
 ghost use Rattle.rule.specs.Calls.{window};
 ghost use Rattle.rule.specs.Tests.{waitings};
+ghost use Rattle.rule.specs.Voice.{tuning};
 ghost use Rattle.rule.specs.State.{back};
 ghost use Rattle.line.specs.Ring.{ring};
 ghost use Rattle.voice.specs.Struct.{kindOf, waitingOf, voiceOf};
@@ -45,29 +46,28 @@ fn waiting(w: Waiting) -> u32
     }
 }
 
-// What a change is refused by: 2, 3, then 6, else 0.
-fn refused(h: Head, length: u32, delay: u32) -> u32
-    requires { ⌜ Fit h ⌝ }
-    ensures { λ r. ⌜ Refuses h length delay r ⌝ }
+// What a change is refused by: 1, 2, 3, then 6, else 0.
+fn refused(h: Head, order: u32, length: u32, delay: u32) -> u32
+    ensures { λ r. ⌜ Refuses h order length delay r ⌝ }
 {
-    let code = untuned(h.filter.tuning.order, length, delay);
+    let code = untuned(order, length, delay);
     let w = h.waiting;
     tested(code, refusal::CHANGE_WAITS, waiting(w), 0, 0)
 }
 
 // Starts an eliminator at rest, whose change waits as this kind does.
-fn prepare(head: Head, kind: Kind, length: u32, delay: u32) -> Answer
+fn prepare(head: Head, kind: Kind, order: u32, length: u32, delay: u32) -> Answer
     requires { ⌜ Fit head ⌝ }
-    ensures { λ r. ⌜ Called head (Prepare (kindOf kind) length delay) r ⌝ }
+    ensures { λ r. ⌜ Called head (Prepare (kindOf kind) (tuning order length delay)) r ⌝ }
 {
-    let code = refused(head, length, delay);
+    let code = refused(head, order, length, delay);
     if code != 0 {
         return Answer {
             refusal: code,
             head: head,
         };
     }
-    let e = resting(head.filter.tuning.order, length, delay);
+    let e = resting(order, length, delay);
     Answer {
         refusal: 0,
         head: settle(head, kind, e, 0),
@@ -75,19 +75,19 @@ fn prepare(head: Head, kind: Kind, length: u32, delay: u32) -> Answer
 }
 
 // Announces a change, which takes effect after as many samples as the advance.
-pub fn announce(head: Head, length: u32, delay: u32) -> Answer
+pub fn announce(head: Head, order: u32, length: u32, delay: u32) -> Answer
     requires { ⌜ Fit head ⌝ }
-    ensures { λ r. ⌜ Called head (Announce length delay) r ⌝ }
+    ensures { λ r. ⌜ Called head (Announce (tuning order length delay)) r ⌝ }
 {
-    prepare(head, Kind::Announced, length, delay)
+    prepare(head, Kind::Announced, order, length, delay)
 }
 
 // Asks for a change, which takes effect when it is committed.
-pub fn ask(head: Head, length: u32, delay: u32) -> Answer
+pub fn ask(head: Head, order: u32, length: u32, delay: u32) -> Answer
     requires { ⌜ Fit head ⌝ }
-    ensures { λ r. ⌜ Called head (Ask length delay) r ⌝ }
+    ensures { λ r. ⌜ Called head (Ask (tuning order length delay)) r ⌝ }
 {
-    prepare(head, Kind::Asked, length, delay)
+    prepare(head, Kind::Asked, order, length, delay)
 }
 
 // The eliminator f after the last reads of the line, as many as the advance.
@@ -106,12 +106,13 @@ fn prepared(line: &[i32; 2112], f: Filter, at: usize, advance: u32) -> Filter
 }
 
 // Changes at once, from an eliminator that is run first over as many samples as the advance.
-pub fn instant(line: &[i32; 2112], head: Head, length: u32, delay: u32) -> Changed
+pub fn instant(line: &[i32; 2112], head: Head, order: u32, length: u32, delay: u32) -> Changed
     requires { ⌜ Valid head (now line) ⌝ }
-    ensures { λ r. ⌜ On head (now (line .entry)) (Instant length delay) (r .answer) (now (line .entry)) ⌝ }
-    ensures { λ r. ⌜ r .count ≡ Count (voiceOf head) (Instant length delay) ⌝ }
+    ensures { λ r. ⌜ On head (now (line .entry)) (Instant (tuning order length delay)) (r .answer)
+        (now (line .entry)) ⌝ }
+    ensures { λ r. ⌜ r .count ≡ Count (voiceOf head) (Instant (tuning order length delay)) ⌝ }
 {
-    let code = refused(head, length, delay);
+    let code = refused(head, order, length, delay);
     if code != 0 {
         let a = Answer {
             refusal: code,
@@ -122,7 +123,7 @@ pub fn instant(line: &[i32; 2112], head: Head, length: u32, delay: u32) -> Chang
             count: 0,
         };
     }
-    let e = resting(head.filter.tuning.order, length, delay);
+    let e = resting(order, length, delay);
     let p = prepared(line, e, head.at, head.advance);
     let a = Answer {
         refusal: 0,

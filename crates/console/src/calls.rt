@@ -92,7 +92,7 @@ fn pedal(head: Head, l: Request) -> Answer
     ensures { λ r. ⌜ ((k : List ℤ) → Valid head k → Valid (r .head) k) ⌝ }
 {
     if l.kind == ASK {
-        return change::ask(head, l.a, l.b);
+        return change::ask(head, l.a, l.b, l.c);
     }
     if l.kind == COMMIT {
         return change::asked::commit(head);
@@ -118,7 +118,7 @@ fn set(head: Head, l: Request) -> Answer
         return open::calls::pluck(head, l.a, l.b, l.c);
     }
     if l.kind == ANNOUNCE {
-        return change::announce(head, l.a, l.b);
+        return change::announce(head, l.a, l.b, l.c);
     }
     pedal(head, l)
 }
@@ -128,7 +128,7 @@ fn instant(line: &[i32; 2112], head: Head, l: Request) -> Made
     requires { ⌜ Valid head (now line) ⌝ }
     ensures { λ r. ⌜ Valid (r .head) (now (line .entry)) ⌝ }
 {
-    let c = change::instant(line, head, l.a, l.b);
+    let c = change::instant(line, head, l.a, l.b, l.c);
     let h = c.answer.head;
     Made {
         refusal: c.answer.refusal,

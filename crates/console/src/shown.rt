@@ -4,7 +4,6 @@ ghost use Prim.Native.Nat.{_<_};
 use allpass::State;
 use integer::Value;
 use print::pair;
-use print::short;
 use print::signed;
 use print::triple;
 use voice::Filter;
@@ -28,19 +27,19 @@ fn kind(k: Kind) -> u32 {
     }
 }
 
-// A change that waits: its kind, its L and d, how many samples it has taken, and its state.
+// A change that waits: its kind, its N, L and d, how many samples it has taken, and its state.
 fn change(buffer: &mut [u8; 4096], at: usize, k: Kind, e: Filter, taken: u32) -> usize {
-    let a = triple(buffer, at, kind(k), e.tuning.length, e.tuning.delay);
-    let b = short(buffer, a, taken);
+    let a = pair(buffer, at, kind(k), e.tuning.order);
+    let b = triple(buffer, a, e.tuning.length, e.tuning.delay, taken);
     held(buffer, b, e.state)
 }
 
-// Seven numbers: a change that waits, or 0 where none does.
+// Eight numbers: a change that waits, or 0 where none does.
 fn waiting(buffer: &mut [u8; 4096], at: usize, w: Waiting) -> usize {
     match w {
         Waiting::Idle => {
-            let a = triple(buffer, at, 0, 0, 0);
-            let b = short(buffer, a, 0);
+            let a = pair(buffer, at, 0, 0);
+            let b = triple(buffer, a, 0, 0, 0);
             triple(buffer, b, 0, 0, 0)
         }
         Waiting::Prepared(k, e, taken) => change(buffer, at, k, e, taken),

@@ -11,7 +11,7 @@ use Rattle.integer.specs.Cut.{cut, R, Q}
 use Rattle.thiran.specs.Formula.{factor, a}
 use Rattle.thiran.specs.Coefficients.{coefficient, coefficients}
 use Rattle.allpass.specs.Allpass.{inner, next, out}
-use Rattle.rule.specs.Voice.{Tuning, noise, spent, output, written, settled, stepped}
+use Rattle.rule.specs.Voice.{Tuning, tuning, noise, spent, output, written, settled, stepped}
 use Rattle.rule.specs.Calls.{Call, announce, instant, ask, commit, number, opened, done}
 use Rattle.rule.specs.History.{History, steps, read, step, call, after, new}
 use Rattle.rule.specs.State as State
@@ -41,7 +41,7 @@ given pre c post t a e m k n l b p q = record {
 }
 
 -- the instant change is called before step 6, and in force from then on
-called : {h : History} {L d : ℕ} {t : Tuning} {a e : ℕ} → Change h (instant L d) t a e → steps h ≡ e
+called : {h : History} {to t : Tuning} {a e : ℕ} → Change h (instant to) t a e → steps h ≡ e
 called (instantly z) = refl
 
 after-5 : {e : ℕ} → 6 ≡ e → 5 < e
@@ -55,12 +55,12 @@ silence zero l = refl
 silence (suc zero) l = refl
 silence (suc (suc i)) l = absurd (omega arith)
 
-last : Instance (quiet ∷ []) (announce 1 9159) (late ∷ []) t 2 4 5 (pos 4886) (pos 4886)
+last : Instance (quiet ∷ []) (announce t) (late ∷ []) t 2 4 5 (pos 4886) (pos 4886)
 unfolding
     floor nearest cut R Q clip factor a coefficient coefficients inner next out noise spent output written settled
     stepped number opened done read step call new State.step State.sounds State.call State.put State.silence
 last =
-    given (quiet ∷ []) (announce 1 9159) (late ∷ []) t 2 4 5 (announcing refl) (none-block 5 _ _ _, tt)
+    given (quiet ∷ []) (announce t) (late ∷ []) t 2 4 5 (announcing refl) (none-block 5 _ _ _, tt)
     (omega arith) (omega arith) refl refl
 
 pub instances : Instances
@@ -69,15 +69,25 @@ unfolding
     stepped number opened done read step call new State.step State.sounds State.call State.put State.silence
 instances = record {
   announced =
-      given (loud ∷ []) (announce 2 9159) (zeros ∷ instant 1 7000 ∷ zeros ∷ []) _ 2 5 5 (announcing refl)
-      (none-block 5 _ _ _, (λ t a e k. after-5 (called k), (none-block 5 _ _ _, tt)))
+      given (loud ∷ []) (announce (tuning 2 2 9159)) (zeros ∷ instant (tuning 2 1 7000) ∷ zeros ∷ []) _ 2 5 5
+      (announcing refl) (none-block 5 _ _ _, (λ t a e k. after-5 (called k), (none-block 5 _ _ _, tt)))
       (omega arith) (omega arith) refl refl;
   instantly =
-      given (loud ∷ announce 2 9159 ∷ zeros ∷ []) (instant 1 7000) (zeros ∷ []) _ 2 6 8 (instantly refl)
-      (none-block 8 _ _ _, tt) (omega arith) (omega arith) refl refl;
+      given (loud ∷ announce (tuning 2 2 9159) ∷ zeros ∷ []) (instant (tuning 2 1 7000)) (zeros ∷ []) _ 2 6 8
+      (instantly refl) (none-block 8 _ _ _, tt) (omega arith) (omega arith) refl refl;
   committed =
-      given (loud ∷ ask 2 9159 ∷ zeros ∷ []) commit (zeros ∷ []) _ 3 6 6 (committing refl refl)
+      given (loud ∷ ask (tuning 2 2 9159) ∷ zeros ∷ []) commit (zeros ∷ []) _ 3 6 6 (committing refl refl)
       (none-block 6 _ _ _, tt) (omega arith) (omega arith) refl refl;
+  up =
+      given (loud ∷ []) (announce (tuning 3 1 12000)) (zeros ∷ instant (tuning 1 2 3000) ∷ zeros ∷ []) _ 2 5 5
+      (announcing refl) (none-block 5 _ _ _, (λ t a e k. after-5 (called k), (none-block 5 _ _ _, tt)))
+      (omega arith) (omega arith) refl refl;
+  down =
+      given (loud ∷ announce (tuning 3 1 12000) ∷ zeros ∷ []) (instant (tuning 1 2 3000)) (zeros ∷ []) _ 2 6 8
+      (instantly refl) (none-block 8 _ _ _, tt) (omega arith) (omega arith) refl refl;
+  committed-down =
+      given (loud ∷ ask (tuning 1 2 3000) ∷ zeros ∷ []) commit (zeros ∷ []) _ 3 6 7 (committing refl refl)
+      (none-block 7 _ _ _, tt) (omega arith) (omega arith) refl refl;
   same = last;
   line = refl;
   zero = silence;

@@ -18,6 +18,13 @@ unfolding
     noise spent output written settled stepped number opened done count step sounds call put silence
 rows = record {
   openings = refl;
+  orders-announced = record { opening = refl; numbers = refl; counts = refl; outputs = refl; voice = refl; line = refl };
+  orders-instant = record { opening = refl; numbers = refl; counts = refl; outputs = refl; voice = refl; line = refl };
+  orders-asked = record { opening = refl; numbers = refl; counts = refl; outputs = refl; voice = refl; line = refl };
+  orders-down = record { opening = refl; numbers = refl; counts = refl; outputs = refl; voice = refl; line = refl };
+  orders-back = record { opening = refl; numbers = refl; counts = refl; outputs = refl; voice = refl; line = refl };
+  orders-rest = record { opening = refl; numbers = refl; counts = refl; outputs = refl; voice = refl; line = refl };
+  orders-refused = record { opening = refl; numbers = refl; counts = refl; outputs = refl; voice = refl; line = refl };
   clips = record { opening = refl; numbers = refl; counts = refl; outputs = refl; voice = refl; line = refl };
   waits = record { opening = refl; numbers = refl; counts = refl; outputs = refl; voice = refl; line = refl };
   early = record { opening = refl; numbers = refl; counts = refl; outputs = refl; voice = refl; line = refl };

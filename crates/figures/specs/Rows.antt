@@ -7,7 +7,7 @@ use Prim.Native.Nat.{ℕ}
 use lib.IntN.{ℤ, pos, negsuc}
 use lib.ListN.{length, take}
 use Rattle.refusal.specs.Limits.{refusal}
-use Rattle.rule.specs.Voice.{announced, asked, Voice}
+use Rattle.rule.specs.Voice.{announced, asked, tuning, Voice}
 use Rattle.rule.specs.Calls.{Call, block, loss, pluck, announce, instant, ask, commit, withdraw}
 use Rattle.rule.specs.Calls.{Opening, openLimits}
 use Rattle.rule.specs.State as State
@@ -60,6 +60,275 @@ pub record Rows : Type 0 where
       ∷ record { N = 3; L = 2048; d = 14336; G = 65535; Na = 64 }
       ∷ [])
       ≡ 1 ∷ 1 ∷ 2 ∷ 2 ∷ 3 ∷ 3 ∷ 3 ∷ 3 ∷ 3 ∷ 3 ∷ 4 ∷ 5 ∷ 0 ∷ 0 ∷ 0 ∷ 0 ∷ 0 ∷ 0 ∷ []
+  -- Na 2: announced changes from order 1 to 3, to 1, to 2 and to 3, each in force within a block;
+  -- another order is refused by 6 while one waits; a change to order 1 waits at last
+  pub orders-announced :
+      Row (record { N = 1; L = 2; d = 3000; G = 65000; Na = 2 })
+      (block (pos 1000000 ∷ negsuc 1999999 ∷ pos 500000 ∷ pos 7 ∷ []) 4
+      ∷ announce (tuning 3 3 10300)
+      ∷ block (pos 0 ∷ pos 0 ∷ pos 0 ∷ negsuc 8 ∷ []) 4
+      ∷ announce (tuning 1 1 6000)
+      ∷ block (pos 0 ∷ pos 0 ∷ pos 0 ∷ []) 3
+      ∷ announce (tuning 2 2 9159)
+      ∷ block (pos 0 ∷ []) 1
+      ∷ announce (tuning 3 1 12000)
+      ∷ block (pos 0 ∷ pos 0 ∷ pos 0 ∷ []) 3
+      ∷ announce (tuning 3 1 14336)
+      ∷ block (pos 0 ∷ pos 0 ∷ pos 5 ∷ pos 0 ∷ pos 0 ∷ []) 5
+      ∷ announce (tuning 1 3 2049)
+      ∷ block (pos 0 ∷ []) 1
+      ∷ [])
+      (record {
+        opening = 0;
+        numbers = 0 ∷ 0 ∷ 0 ∷ 0 ∷ 0 ∷ 0 ∷ 0 ∷ 6 ∷ 0 ∷ 0 ∷ 0 ∷ 0 ∷ 0 ∷ [];
+        counts = 0 ∷ 0 ∷ 0 ∷ 0 ∷ 0 ∷ 0 ∷ 0 ∷ 0 ∷ 0 ∷ 0 ∷ 0 ∷ 0 ∷ 0 ∷ [];
+        outputs =
+            pos 0 ∷ pos 0 ∷ pos 154449 ∷ pos 667247 ∷ negsuc 2014001 ∷ pos 950590 ∷ negsuc 896072
+            ∷ negsuc 1407253 ∷ pos 1314911 ∷ negsuc 451490 ∷ negsuc 332659 ∷ pos 438779
+            ∷ negsuc 316045 ∷ pos 475714 ∷ negsuc 324364 ∷ negsuc 12020 ∷ pos 56059 ∷ negsuc 37532
+            ∷ pos 119246 ∷ negsuc 130474 ∷ negsuc 32246 ∷ [];
+        voice = record {
+          tuning = record { N = 3; L = 1; d = 14336 };
+          G = 65000;
+          Na = 2;
+          state = pos 8235 ∷ pos 45870 ∷ pos 12208 ∷ [];
+          last = negsuc 32246;
+          waiting = some (record {
+            kind = announced;
+            tuning = record { N = 1; L = 3; d = 2049 };
+            taken = 1;
+            state = pos 9192 ∷ [];
+          });
+          pluck = record { amplitude = 0; left = 0; noise = 0 };
+        };
+        line =
+            negsuc 80694 ∷ negsuc 5567 ∷ pos 40522 ∷ pos 9192 ∷ pos 21838 ∷ negsuc 166816
+            ∷ pos 75055 ∷ pos 79181 ∷ pos 60864 ∷ pos 52625 ∷ negsuc 388867 ∷ pos 428179
+            ∷ negsuc 45792 ∷ negsuc 1142252 ∷ pos 27035 ∷ negsuc 527356 ∷ negsuc 667869
+            ∷ pos 407494 ∷ pos 576592 ∷ negsuc 1999999 ∷ pos 1000000 ∷ pos 0 ∷ [];
+      })
+  -- Na 3: instant changes from order 2 to 3, back to 2, to 1 and to 3
+  pub orders-instant :
+      Row (record { N = 2; L = 2; d = 7075; G = 64000; Na = 3 })
+      (block (pos 1000000 ∷ negsuc 1999999 ∷ pos 500000 ∷ pos 7 ∷ []) 4
+      ∷ instant (tuning 3 1 13000)
+      ∷ block (pos 0 ∷ pos 0 ∷ []) 2
+      ∷ instant (tuning 2 2 6145)
+      ∷ block (pos 0 ∷ pos 0 ∷ []) 2
+      ∷ instant (tuning 1 1 6144)
+      ∷ block (pos 0 ∷ negsuc 8 ∷ []) 2
+      ∷ instant (tuning 3 2 10241)
+      ∷ block (pos 0 ∷ pos 0 ∷ pos 0 ∷ []) 3
+      ∷ [])
+      (record {
+        opening = 0;
+        numbers = 0 ∷ 0 ∷ 0 ∷ 0 ∷ 0 ∷ 0 ∷ 0 ∷ 0 ∷ 0 ∷ [];
+        counts = 0 ∷ 3 ∷ 0 ∷ 3 ∷ 0 ∷ 3 ∷ 0 ∷ 3 ∷ 0 ∷ [];
+        outputs =
+            pos 0 ∷ pos 0 ∷ negsuc 19514 ∷ pos 242916 ∷ pos 1240082 ∷ negsuc 1900474 ∷ pos 1077585
+            ∷ negsuc 65022 ∷ negsuc 518714 ∷ pos 447678 ∷ negsuc 465965 ∷ pos 17059 ∷ pos 344985
+            ∷ [];
+        voice = record {
+          tuning = record { N = 3; L = 2; d = 10241 };
+          G = 64000;
+          Na = 3;
+          state = negsuc 136228 ∷ pos 230108 ∷ negsuc 549756 ∷ [];
+          last = pos 344985;
+          waiting = none;
+          pluck = record { amplitude = 0; left = 0; noise = 0 };
+        };
+        line =
+            pos 176779 ∷ negsuc 219191 ∷ negsuc 8928 ∷ negsuc 34694 ∷ negsuc 285027 ∷ pos 494415
+            ∷ negsuc 401800 ∷ negsuc 322456 ∷ pos 724120 ∷ pos 109089 ∷ pos 490472 ∷ negsuc 1999999
+            ∷ pos 1000000 ∷ pos 0 ∷ [];
+      })
+  -- Na 2: order 1 is asked for in order 3, and committed two samples late; order 3 is asked for in
+  -- order 1, and withdrawn; order 2 is asked for, and committed on the sample
+  pub orders-asked :
+      Row (record { N = 3; L = 2; d = 11171; G = 65000; Na = 2 })
+      (block (pos 1000000 ∷ negsuc 1999999 ∷ pos 500000 ∷ pos 7 ∷ []) 4
+      ∷ ask (tuning 1 3 5000)
+      ∷ block (pos 0 ∷ []) 1
+      ∷ commit
+      ∷ block (pos 0 ∷ pos 0 ∷ pos 0 ∷ []) 3
+      ∷ commit
+      ∷ block (pos 0 ∷ pos 0 ∷ []) 2
+      ∷ ask (tuning 3 1 14000)
+      ∷ block (pos 0 ∷ pos 9 ∷ pos 0 ∷ []) 3
+      ∷ withdraw
+      ∷ commit
+      ∷ block (pos 0 ∷ []) 1
+      ∷ ask (tuning 2 1 10240)
+      ∷ block (pos 0 ∷ negsuc 8 ∷ []) 2
+      ∷ commit
+      ∷ block (pos 0 ∷ pos 0 ∷ pos 0 ∷ []) 3
+      ∷ [])
+      (record {
+        opening = 0;
+        numbers = 0 ∷ 0 ∷ 0 ∷ 20 ∷ 0 ∷ 0 ∷ 0 ∷ 0 ∷ 0 ∷ 0 ∷ 21 ∷ 0 ∷ 0 ∷ 0 ∷ 0 ∷ 0 ∷ [];
+        counts = 0 ∷ 0 ∷ 0 ∷ 0 ∷ 0 ∷ 0 ∷ 0 ∷ 0 ∷ 0 ∷ 0 ∷ 0 ∷ 0 ∷ 0 ∷ 0 ∷ 0 ∷ 0 ∷ [];
+        outputs =
+            pos 0 ∷ pos 0 ∷ pos 3387 ∷ negsuc 41285 ∷ pos 297909 ∷ pos 477205 ∷ negsuc 1983362
+            ∷ pos 945009 ∷ pos 88918 ∷ pos 467452 ∷ negsuc 649289 ∷ negsuc 630410 ∷ pos 422665
+            ∷ pos 326874 ∷ pos 5377 ∷ negsuc 623834 ∷ pos 282521 ∷ pos 329502 ∷ negsuc 163202 ∷ [];
+        voice = record {
+          tuning = record { N = 2; L = 1; d = 10240 };
+          G = 65000;
+          Na = 2;
+          state = pos 243059 ∷ negsuc 252734 ∷ [];
+          last = negsuc 163202;
+          waiting = none;
+          pluck = record { amplitude = 0; left = 0; noise = 0 };
+        };
+        line =
+            pos 82469 ∷ pos 303508 ∷ negsuc 169260 ∷ negsuc 306707 ∷ pos 164766 ∷ pos 371704
+            ∷ negsuc 103022 ∷ negsuc 634607 ∷ negsuc 90174 ∷ pos 275909 ∷ pos 512735
+            ∷ negsuc 514929 ∷ negsuc 746918 ∷ pos 384387 ∷ pos 127262 ∷ negsuc 18786 ∷ pos 501679
+            ∷ negsuc 1999999 ∷ pos 1000000 ∷ pos 0 ∷ [];
+      })
+  -- Na 0: order 1 in place of order 3, from rest; the line and the last output carry over
+  pub orders-down :
+      Row (record { N = 3; L = 1; d = 14336; G = 65535; Na = 0 })
+      (block (pos 1000000 ∷ negsuc 1999999 ∷ pos 3000000 ∷ pos 0 ∷ pos 0 ∷ []) 5
+      ∷ announce (tuning 1 1 3000)
+      ∷ [])
+      (record {
+        opening = 0;
+        numbers = 0 ∷ 0 ∷ [];
+        counts = 0 ∷ 0 ∷ [];
+        outputs = pos 0 ∷ negsuc 11656 ∷ pos 110409 ∷ negsuc 513367 ∷ pos 1766878 ∷ [];
+        voice = record {
+          tuning = record { N = 1; L = 1; d = 3000 };
+          G = 65535;
+          Na = 0;
+          state = pos 0 ∷ [];
+          last = pos 1766878;
+          waiting = none;
+          pluck = record { amplitude = 0; left = 0; noise = 0 };
+        };
+        line = pos 626745 ∷ negsuc 201475 ∷ pos 3049375 ∷ negsuc 2005827 ∷ pos 1000000 ∷ pos 0 ∷ [];
+      })
+  -- Na 1: order 3 after order 1 after order 3; nothing is left of the first state
+  pub orders-back :
+      Row (record { N = 3; L = 1; d = 14336; G = 65535; Na = 1 })
+      (block (pos 1000000 ∷ negsuc 1999999 ∷ pos 3000000 ∷ pos 0 ∷ pos 0 ∷ []) 5
+      ∷ announce (tuning 1 1 3000)
+      ∷ block (pos 0 ∷ pos 0 ∷ []) 2
+      ∷ instant (tuning 3 1 14336)
+      ∷ [])
+      (record {
+        opening = 0;
+        numbers = 0 ∷ 0 ∷ 0 ∷ 0 ∷ [];
+        counts = 0 ∷ 0 ∷ 0 ∷ 1 ∷ [];
+        outputs =
+            pos 0 ∷ negsuc 11656 ∷ pos 110409 ∷ negsuc 513367 ∷ pos 1766878 ∷ negsuc 2410984
+            ∷ pos 562055 ∷ [];
+        voice = record {
+          tuning = record { N = 3; L = 1; d = 14336 };
+          G = 65535;
+          Na = 1;
+          state = negsuc 322047 ∷ pos 0 ∷ pos 0 ∷ [];
+          last = pos 562055;
+          waiting = none;
+          pluck = record { amplitude = 0; left = 0; noise = 0 };
+        };
+        line =
+            negsuc 924449 ∷ negsuc 322047 ∷ pos 626745 ∷ negsuc 201475 ∷ pos 3049375
+            ∷ negsuc 2005827 ∷ pos 1000000 ∷ pos 0 ∷ [];
+      })
+  -- Na 0: order 1 is asked for in order 3, and committed from rest, as is order 2 in order 1;
+  -- announced and instant changes to each order at one step, of which the last is in force
+  pub orders-rest :
+      Row (record { N = 3; L = 2; d = 10241; G = 65535; Na = 0 })
+      (block (pos 1000000 ∷ negsuc 1999999 ∷ pos 500000 ∷ pos 7 ∷ []) 4
+      ∷ ask (tuning 1 2 2049)
+      ∷ commit
+      ∷ block (pos 0 ∷ pos 0 ∷ pos 0 ∷ []) 3
+      ∷ ask (tuning 2 1 8000)
+      ∷ commit
+      ∷ block (pos 0 ∷ pos 0 ∷ []) 2
+      ∷ announce (tuning 1 1 4000)
+      ∷ instant (tuning 3 3 13255)
+      ∷ announce (tuning 2 1 6500)
+      ∷ block (pos 0 ∷ pos 0 ∷ negsuc 8 ∷ pos 0 ∷ []) 4
+      ∷ [])
+      (record {
+        opening = 0;
+        numbers = 0 ∷ 0 ∷ 0 ∷ 0 ∷ 0 ∷ 0 ∷ 0 ∷ 0 ∷ 0 ∷ 0 ∷ 0 ∷ [];
+        counts = 0 ∷ 0 ∷ 0 ∷ 0 ∷ 0 ∷ 0 ∷ 0 ∷ 0 ∷ 0 ∷ 0 ∷ 0 ∷ [];
+        outputs =
+            pos 0 ∷ pos 0 ∷ pos 4333 ∷ negsuc 58129 ∷ pos 167278 ∷ pos 437486 ∷ negsuc 154444
+            ∷ negsuc 541 ∷ pos 4807 ∷ negsuc 54 ∷ pos 636 ∷ pos 2678 ∷ pos 1587 ∷ [];
+        voice = record {
+          tuning = record { N = 2; L = 1; d = 6500 };
+          G = 65535;
+          Na = 0;
+          state = pos 1753 ∷ negsuc 194 ∷ [];
+          last = pos 1587;
+          waiting = none;
+          pluck = record { amplitude = 0; left = 0; noise = 0 };
+        };
+        line =
+            pos 2132 ∷ pos 1647 ∷ pos 290 ∷ pos 2375 ∷ pos 2132 ∷ negsuc 77491 ∷ pos 141518
+            ∷ pos 302377 ∷ pos 54573 ∷ negsuc 26890 ∷ pos 502166 ∷ negsuc 1999999 ∷ pos 1000000
+            ∷ pos 0 ∷ [];
+      })
+  -- order 2: refusal 1 before 2 and 3; 2 before 3; 3 with the order named, and not with the one in
+  -- force; 6 last, while an asked change to order 3 waits, past Na at last
+  pub orders-refused :
+      Row (record { N = 2; L = 3; d = 7000; G = 60000; Na = 2 })
+      (block (pos 1000000 ∷ negsuc 1999999 ∷ pos 500000 ∷ []) 3
+      ∷ announce (tuning 0 2 7000)
+      ∷ instant (tuning 4 2 7000)
+      ∷ ask (tuning 4294967295 2 7000)
+      ∷ announce (tuning 4 0 7000)
+      ∷ instant (tuning 0 2049 0)
+      ∷ ask (tuning 4 0 0)
+      ∷ announce (tuning 3 0 7000)
+      ∷ instant (tuning 1 2049 7000)
+      ∷ ask (tuning 3 0 12000)
+      ∷ announce (tuning 1 2 7000)
+      ∷ instant (tuning 3 2 7000)
+      ∷ ask (tuning 1 2 6145)
+      ∷ announce (tuning 2 2 12000)
+      ∷ instant (tuning 2 2 5000)
+      ∷ ask (tuning 2 2 10241)
+      ∷ ask (tuning 3 2 12000)
+      ∷ announce (tuning 4 2 12000)
+      ∷ instant (tuning 1 0 5000)
+      ∷ ask (tuning 1 2 7000)
+      ∷ announce (tuning 2 2 7000)
+      ∷ instant (tuning 1 2 5000)
+      ∷ ask (tuning 3 2 12000)
+      ∷ block (pos 0 ∷ pos 0 ∷ pos 0 ∷ []) 3
+      ∷ [])
+      (record {
+        opening = 0;
+        numbers =
+            0 ∷ 1 ∷ 1 ∷ 1 ∷ 1 ∷ 1 ∷ 1 ∷ 2 ∷ 2 ∷ 2 ∷ 3 ∷ 3 ∷ 3 ∷ 3 ∷ 3 ∷ 3 ∷ 0 ∷ 1 ∷ 2 ∷ 3 ∷ 6 ∷ 6
+            ∷ 6 ∷ 0 ∷ [];
+        counts =
+            0 ∷ 0 ∷ 0 ∷ 0 ∷ 0 ∷ 0 ∷ 0 ∷ 0 ∷ 0 ∷ 0 ∷ 0 ∷ 0 ∷ 0 ∷ 0 ∷ 0 ∷ 0 ∷ 0 ∷ 0 ∷ 0 ∷ 0 ∷ 0 ∷ 0
+            ∷ 0 ∷ 0 ∷ [];
+        outputs = pos 0 ∷ pos 0 ∷ pos 0 ∷ negsuc 20537 ∷ pos 260348 ∷ pos 503653 ∷ [];
+        voice = record {
+          tuning = record { N = 2; L = 3; d = 7000 };
+          G = 60000;
+          Na = 2;
+          state = pos 996420 ∷ negsuc 2214858 ∷ [];
+          last = pos 503653;
+          waiting = some (record {
+            kind = asked;
+            tuning = record { N = 3; L = 2; d = 12000 };
+            taken = 2;
+            state = negsuc 62236 ∷ pos 607360 ∷ negsuc 1999999 ∷ [];
+          });
+          pluck = record { amplitude = 0; left = 0; noise = 0 };
+        };
+        line =
+            pos 349731 ∷ pos 109776 ∷ negsuc 9400 ∷ pos 500000 ∷ negsuc 1999999 ∷ pos 1000000
+            ∷ pos 0 ∷ [];
+      })
   -- inputs at ±M: outputs and samples that clip, above and below; refusals 9 and 10
   pub clips :
       Row (record { N = 1; L = 1; d = 2049; G = 65535; Na = 0 })
@@ -96,24 +365,24 @@ pub record Rows : Type 0 where
   pub waits :
       Row (record { N = 2; L = 3; d = 7075; G = 60000; Na = 3 })
       (block (pos 1000000 ∷ negsuc 1999999 ∷ pos 500000 ∷ pos 7 ∷ []) 4
-      ∷ announce 2 9159
-      ∷ announce 0 6144
-      ∷ instant 2049 7000
-      ∷ announce 2048 6144
-      ∷ instant 1 10241
-      ∷ instant 4 7000
-      ∷ announce 4 7000
+      ∷ announce (tuning 2 2 9159)
+      ∷ announce (tuning 2 0 6144)
+      ∷ instant (tuning 2 2049 7000)
+      ∷ announce (tuning 2 2048 6144)
+      ∷ instant (tuning 2 1 10241)
+      ∷ instant (tuning 2 4 7000)
+      ∷ announce (tuning 2 4 7000)
       ∷ block (pos 0 ∷ []) 1
       ∷ loss 40000
       ∷ block [] 0
       ∷ block (negsuc 2 ∷ []) 1
-      ∷ announce 1 10240
+      ∷ announce (tuning 2 1 10240)
       ∷ block (pos 0 ∷ pos 0 ∷ pos 0 ∷ []) 3
-      ∷ announce 5 6145
+      ∷ announce (tuning 2 5 6145)
       ∷ block (pos 0 ∷ pos 100000 ∷ pos 0 ∷ []) 3
-      ∷ instant 1 8000
+      ∷ instant (tuning 2 1 8000)
       ∷ block (pos 0 ∷ pos 0 ∷ []) 2
-      ∷ announce 3 10240
+      ∷ announce (tuning 2 3 10240)
       ∷ block (pos 5 ∷ pos 0 ∷ []) 2
       ∷ [])
       (record {
@@ -147,12 +416,12 @@ pub record Rows : Type 0 where
   -- order 1, Na 64: instant changes at step 0 and soon after it; one waits at last
   pub early :
       Row (record { N = 1; L = 2; d = 6144; G = 65535; Na = 64 })
-      (instant 2048 2049
-      ∷ instant 2 5000
+      (instant (tuning 1 2048 2049)
+      ∷ instant (tuning 1 2 5000)
       ∷ block (pos 3000000 ∷ negsuc 3999999 ∷ pos 70000 ∷ []) 3
-      ∷ instant 1 2979
+      ∷ instant (tuning 1 1 2979)
       ∷ block (pos 0 ∷ pos 0 ∷ pos 0 ∷ []) 3
-      ∷ announce 3 5555
+      ∷ announce (tuning 1 3 5555)
       ∷ block (pos 0 ∷ negsuc 0 ∷ []) 2
       ∷ [])
       (record {
@@ -184,7 +453,7 @@ pub record Rows : Type 0 where
   pub reaches :
       Row (record { N = 2; L = 2048; d = 6145; G = 50000; Na = 64 })
       (block (pos 123456 ∷ negsuc 7654320 ∷ []) 2
-      ∷ instant 1 9159
+      ∷ instant (tuning 2 1 9159)
       ∷ block (pos 0 ∷ pos 0 ∷ pos 0 ∷ pos 0 ∷ []) 4
       ∷ [])
       (record {
@@ -210,13 +479,13 @@ pub record Rows : Type 0 where
   pub at-once :
       Row (record { N = 2; L = 1; d = 10240; G = 65535; Na = 0 })
       (block (pos 1000000 ∷ negsuc 1999999 ∷ pos 3000000 ∷ []) 3
-      ∷ announce 2 6145
-      ∷ announce 1 7075
+      ∷ announce (tuning 2 2 6145)
+      ∷ announce (tuning 2 1 7075)
       ∷ block (pos 0 ∷ pos 0 ∷ pos 0 ∷ []) 3
-      ∷ instant 2048 10240
+      ∷ instant (tuning 2 2048 10240)
       ∷ block (pos 0 ∷ []) 1
-      ∷ announce 1 8000
-      ∷ instant 2 9159
+      ∷ announce (tuning 2 1 8000)
+      ∷ instant (tuning 2 2 9159)
       ∷ block (pos 0 ∷ pos 0 ∷ []) 2
       ∷ loss 65536
       ∷ loss 0
@@ -249,12 +518,12 @@ pub record Rows : Type 0 where
       (block (pos 1000000 ∷ negsuc 1999999 ∷ pos 500000 ∷ []) 3
       ∷ commit
       ∷ withdraw
-      ∷ ask 0 6144
-      ∷ ask 2 10241
-      ∷ ask 2 9159
-      ∷ ask 4 7000
-      ∷ announce 4 7000
-      ∷ instant 0 7000
+      ∷ ask (tuning 2 0 6144)
+      ∷ ask (tuning 2 2 10241)
+      ∷ ask (tuning 2 2 9159)
+      ∷ ask (tuning 2 4 7000)
+      ∷ announce (tuning 2 4 7000)
+      ∷ instant (tuning 2 0 7000)
       ∷ commit
       ∷ block (pos 0 ∷ []) 1
       ∷ commit
@@ -262,7 +531,7 @@ pub record Rows : Type 0 where
       ∷ commit
       ∷ commit
       ∷ block (pos 0 ∷ pos 0 ∷ []) 2
-      ∷ ask 1 6145
+      ∷ ask (tuning 2 1 6145)
       ∷ block (pos 0 ∷ negsuc 8 ∷ pos 0 ∷ []) 3
       ∷ [])
       (record {
@@ -297,16 +566,16 @@ pub record Rows : Type 0 where
   pub asked-at-rest :
       Row (record { N = 1; L = 2; d = 5000; G = 65535; Na = 0 })
       (block (pos 3000000 ∷ negsuc 3999999 ∷ pos 70000 ∷ []) 3
-      ∷ ask 1 6144
+      ∷ ask (tuning 1 1 6144)
       ∷ commit
       ∷ block (pos 0 ∷ pos 0 ∷ []) 2
-      ∷ ask 3 2049
+      ∷ ask (tuning 1 3 2049)
       ∷ block (pos 0 ∷ pos 0 ∷ pos 0 ∷ []) 3
-      ∷ announce 1 4096
+      ∷ announce (tuning 1 1 4096)
       ∷ commit
       ∷ withdraw
       ∷ block (pos 0 ∷ pos 0 ∷ []) 2
-      ∷ announce 2 3000
+      ∷ announce (tuning 1 2 3000)
       ∷ commit
       ∷ block (pos 0 ∷ pos 0 ∷ []) 2
       ∷ [])
@@ -336,15 +605,15 @@ pub record Rows : Type 0 where
   pub withdrawn :
       Row (record { N = 1; L = 3; d = 2979; G = 62000; Na = 2 })
       (block (pos 2000000 ∷ negsuc 999999 ∷ pos 30000 ∷ []) 3
-      ∷ ask 1 6000
+      ∷ ask (tuning 1 1 6000)
       ∷ block (pos 0 ∷ []) 1
       ∷ withdraw
       ∷ withdraw
-      ∷ ask 2 2049
+      ∷ ask (tuning 1 2 2049)
       ∷ block (pos 0 ∷ pos 0 ∷ pos 0 ∷ []) 3
       ∷ withdraw
       ∷ block (pos 0 ∷ []) 1
-      ∷ announce 2 5555
+      ∷ announce (tuning 1 2 5555)
       ∷ commit
       ∷ withdraw
       ∷ block (pos 0 ∷ []) 1
@@ -383,14 +652,14 @@ pub record Rows : Type 0 where
       ∷ pluck 255 2048 4294967295
       ∷ block (pos 8388607 ∷ negsuc 8388606 ∷ []) 2
       ∷ pluck 3 2 9
-      ∷ announce 2 6000
+      ∷ announce (tuning 1 2 6000)
       ∷ block (pos 0 ∷ pos 0 ∷ pos 0 ∷ []) 3
       ∷ pluck 0 5 7
       ∷ block (pos 0 ∷ pos 0 ∷ []) 2
       ∷ pluck 200 3 0
       ∷ loss 20000
       ∷ block (negsuc 8388606 ∷ []) 1
-      ∷ instant 1 3000
+      ∷ instant (tuning 1 1 3000)
       ∷ block (pos 0 ∷ []) 1
       ∷ [])
       (record {
@@ -551,18 +820,18 @@ pub record Rows : Type 0 where
   pub waits3 :
       Row (record { N = 3; L = 2; d = 10241; G = 65535; Na = 4 })
       (block (pos 1000000 ∷ negsuc 1999999 ∷ pos 500000 ∷ pos 7 ∷ []) 4
-      ∷ instant 1 14336
+      ∷ instant (tuning 3 1 14336)
       ∷ block (pos 0 ∷ pos 0 ∷ negsuc 8 ∷ []) 3
-      ∷ announce 3 12288
-      ∷ announce 2 10240
-      ∷ instant 2 14337
-      ∷ announce 1 11000
+      ∷ announce (tuning 3 3 12288)
+      ∷ announce (tuning 3 2 10240)
+      ∷ instant (tuning 3 2 14337)
+      ∷ announce (tuning 3 1 11000)
       ∷ block (pos 0 ∷ pos 8388607 ∷ []) 2
       ∷ pluck 200 3 5
       ∷ block (pos 0 ∷ pos 0 ∷ pos 0 ∷ negsuc 8388606 ∷ []) 4
-      ∷ announce 1 14336
+      ∷ announce (tuning 3 1 14336)
       ∷ block (pos 0 ∷ pos 0 ∷ pos 0 ∷ pos 0 ∷ pos 0 ∷ []) 5
-      ∷ announce 2 10241
+      ∷ announce (tuning 3 2 10241)
       ∷ block (pos 0 ∷ pos 0 ∷ pos 0 ∷ []) 3
       ∷ [])
       (record {
@@ -598,9 +867,9 @@ pub record Rows : Type 0 where
   pub early3 :
       Row (record { N = 3; L = 1; d = 13000; G = 60000; Na = 64 })
       (block (negsuc 2999999 ∷ pos 4000000 ∷ pos 70000 ∷ []) 3
-      ∷ instant 2 10500
+      ∷ instant (tuning 3 2 10500)
       ∷ block (pos 0 ∷ pos 0 ∷ pos 0 ∷ pos 0 ∷ []) 4
-      ∷ announce 1 14000
+      ∷ announce (tuning 3 1 14000)
       ∷ block (pos 5 ∷ negsuc 0 ∷ []) 2
       ∷ [])
       (record {
@@ -632,9 +901,9 @@ pub record Rows : Type 0 where
   pub at-once3 :
       Row (record { N = 3; L = 1; d = 14336; G = 65535; Na = 0 })
       (block (pos 1000000 ∷ negsuc 1999999 ∷ pos 3000000 ∷ []) 3
-      ∷ announce 2 10241
+      ∷ announce (tuning 3 2 10241)
       ∷ block (pos 0 ∷ pos 0 ∷ pos 0 ∷ []) 3
-      ∷ instant 1 12288
+      ∷ instant (tuning 3 1 12288)
       ∷ block (pos 0 ∷ pos 0 ∷ negsuc 6 ∷ []) 3
       ∷ [])
       (record {
@@ -661,16 +930,16 @@ pub record Rows : Type 0 where
   pub asked3 :
       Row (record { N = 3; L = 2; d = 11171; G = 65000; Na = 2 })
       (block (pos 1000000 ∷ negsuc 1999999 ∷ pos 500000 ∷ pos 7 ∷ []) 4
-      ∷ ask 1 14336
+      ∷ ask (tuning 3 1 14336)
       ∷ block (pos 0 ∷ []) 1
       ∷ commit
       ∷ block (pos 0 ∷ pos 0 ∷ pos 0 ∷ pos 0 ∷ []) 4
       ∷ commit
       ∷ block (pos 0 ∷ pos 0 ∷ []) 2
-      ∷ ask 3 10241
+      ∷ ask (tuning 3 3 10241)
       ∷ block (pos 9 ∷ []) 1
       ∷ withdraw
-      ∷ ask 2 13255
+      ∷ ask (tuning 3 2 13255)
       ∷ block (pos 0 ∷ negsuc 8 ∷ []) 2
       ∷ commit
       ∷ block (pos 0 ∷ pos 0 ∷ []) 2
@@ -701,9 +970,9 @@ pub record Rows : Type 0 where
   pub refused5 :
       Row (record { N = 2; L = 7; d = 9159; G = 60000; Na = 65 })
       (block (pos 1000 ∷ negsuc 1999 ∷ pos 0 ∷ pos 0 ∷ []) 4
-      ∷ announce 2 9159
-      ∷ announce 2 2979
-      ∷ instant 3 5000
+      ∷ announce (tuning 1 2 9159)
+      ∷ announce (tuning 1 2 2979)
+      ∷ instant (tuning 1 3 5000)
       ∷ loss 65535
       ∷ pluck 1 4 0
       ∷ block (pos 0 ∷ pos 0 ∷ pos 0 ∷ pos 0 ∷ []) 4

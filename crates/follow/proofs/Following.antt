@@ -7,6 +7,7 @@ use Prim.Native.Nat.{ℕ}
 use borrow.Author.Tests.{eq-eqb, ne-eqb}
 use lib.Dec.{eqb}
 use lib.IntN.{ℤ}
+use Rattle.rule.specs.Voice.{tuning}
 use Rattle.rule.specs.Calls.{Call, announce, instant}
 use Rattle.rule.specs.State.{State, from}
 use Rattle.voice.specs.declared.Head.{Head}
@@ -76,10 +77,10 @@ module _ (h : Head) (l : List ℤ) (n : ℕ) (c : Call) where
 
 -- a change, announced or instant
 module _ (r : List ℕ) (v : State) {L d : ℕ} (e : L ≡ lengthTo r v) (i : d ≡ delayTo r v) where
-  pub announced : stands r 7 ≡ 0 → announce L d ≡ change r v
+  pub announced : stands r 7 ≡ 0 → announce (tuning (v .voice .tuning .N) L d) ≡ change r v
   announced z = rw (e, i, eq-eqb (stands r 7) 0 z)
 
-  pub at-once : (stands r 7 ≡ 0 → ⊥) → instant L d ≡ change r v
+  pub at-once : (stands r 7 ≡ 0 → ⊥) → instant (tuning (v .voice .tuning .N) L d) ≡ change r v
   at-once f = rw (e, i, ne-eqb (stands r 7) 0 f)
 
 pub on-as : {h : Head} {l : List ℤ} {c b : Call} {a : Answer} {k : List ℤ} → On h l c a k → c ≡ b

@@ -21,7 +21,7 @@ use Rattle.voice.specs.Valid.{Valid}
 use Rattle.voice.proofs.Called.{call-accepted}
 use Rattle.follow.specs.Follow.{value, stands, absent, waitCalls}
 use Rattle.follow.specs.Follow.{lossCalls, change, changeCalls, pluckCalls}
-use Rattle.follow.specs.Follow.{lengthTo, delayTo, result, then, actCalls, recordCalls}
+use Rattle.follow.specs.Follow.{changeTo, result, then, actCalls, recordCalls}
 use Rattle.follow.specs.Does.{Does}
 use Rattle.rule.proofs.Puts.{puts-append}
 use Rattle.follow.proofs.Sequence.{result-one, then-past}
@@ -53,8 +53,7 @@ still-then f g s t v =
 change-still : (r : List ℕ) (v : State) → inputs (change r v) ≡ []
 change-still r v = go (absent r 7)
   where
-    go : (b : Bool) → inputs (cond b (announce (lengthTo r v) (delayTo r v))
-        (instant (lengthTo r v) (delayTo r v))) ≡ []
+    go : (b : Bool) → inputs (cond b (announce (changeTo r v)) (instant (changeTo r v))) ≡ []
     go true = refl
     go false = refl
 

@@ -6,6 +6,7 @@ use Prim.Native.Nat.{ℕ, _+_}
 use lib.Dec.{eqb}
 use lib.IntN.{pos}
 use lib.ListN.{getD, replicate}
+use Rattle.rule.specs.Voice.{Tuning, tuning}
 use Rattle.rule.specs.Calls.{Call, block, loss, pluck, announce, instant}
 use Rattle.rule.specs.State.{State, numbers, from}
 use Rattle.record.specs.Record.{bit}
@@ -36,9 +37,13 @@ lengthTo r v = cond (absent r 1) (v .voice .tuning .L) (value r 1)
 abbrev pub delayTo : List ℕ → State → ℕ
 delayTo r v = cond (absent r 2) (v .voice .tuning .d) (value r 2)
 
+-- "Score changes keep the order in force" (document 02, L6)
+abbrev pub changeTo : List ℕ → State → Tuning
+changeTo r v = tuning (v .voice .tuning .N) (lengthTo r v) (delayTo r v)
+
 -- "Bit 7 has no field and makes the change instant"
 abbrev pub change : List ℕ → State → Call
-change r v = cond (absent r 7) (announce (lengthTo r v) (delayTo r v)) (instant (lengthTo r v) (delayTo r v))
+change r v = cond (absent r 7) (announce (changeTo r v)) (instant (changeTo r v))
 
 -- "no bit 1 or 2, no change"
 abbrev pub changeCalls : List ℕ → State → List Call

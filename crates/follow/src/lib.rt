@@ -46,7 +46,7 @@ fn set_loss(head: Head, r: &[u32; 9]) -> Answer
     open::calls::loss(head, r[LOSS])
 }
 
-// Changes L or d, where the record has one of them, to it and the other that is in force.
+// Changes L or d, where the record has one of them, to it and the other that is in force. The order is kept.
 fn change(line: &[i32; 2112], head: Head, r: &[u32; 9]) -> Answer
     requires { ⌜ Valid head (now line) ⌝ }
     ensures { λ a. ⌜ Does head (now (line .entry))
@@ -62,9 +62,9 @@ fn change(line: &[i32; 2112], head: Head, r: &[u32; 9]) -> Answer
     let length = chosen(bit(map, HAS_LENGTH), r[LENGTH], head.filter.tuning.length);
     let delay = chosen(bit(map, HAS_DELAY), r[DELAY], head.filter.tuning.delay);
     if bit(map, INSTANT) == 0 {
-        return change::announce(head, length, delay);
+        return change::announce(head, head.filter.tuning.order, length, delay);
     }
-    let c = change::instant(line, head, length, delay);
+    let c = change::instant(line, head, head.filter.tuning.order, length, delay);
     c.answer
 }
 

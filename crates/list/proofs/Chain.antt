@@ -60,8 +60,8 @@ follows v none = record { codes = refl; samples = refl; state = refl; valid = v 
 follows {h} {l = l} v (called {c = c} still e k) =
     let o = on l e (v .line) in
     before o (sym (put-none (stateOf h l) c still)) (follows (o .valid) k)
-follows {h} {l = l} v (changed {L = L} {d} e k) =
-    before e (sym (put-none (stateOf h l) (instant L d) refl)) (follows (e .valid) k)
+follows {h} {l = l} v (changed {to = to} e k) =
+    before e (sym (put-none (stateOf h l) (instant to) refl)) (follows (e .valid) k)
 follows {h} {l = l} v (rendered xs over e i k) =
     before e (heard-is over e i) (follows (e .valid) k)
 

@@ -7,6 +7,7 @@ use Prim.Native.Nat.{ℕ}
 use lib.Dec.{eqb}
 use lib.IntN.{ℤ}
 use lib.ListN.{length}
+use Rattle.rule.specs.Voice.{Tuning}
 use Rattle.rule.specs.Calls.{Call, Opening, block, instant, inputs}
 use Rattle.rule.specs.State.{fresh, from, puts, numbers}
 use Rattle.rule.specs.Click.{ClickFigure}
@@ -29,9 +30,9 @@ pub data Chain : Head → List ℤ → List Call → List ℕ → List ℤ → H
       → inputs c ≡ [] → Called h c a → Chain (a .head) l cs ns ys g k
       → Chain h l (c ∷ cs) (a .refusal ∷ ns) ys g k
   -- an instant change, which reads the line
-  changed : {h g : Head} {l k : List ℤ} {L d : ℕ} {cs : List Call} {ns : List ℕ} {ys : List ℤ} {a : Answer}
-      → On h l (instant L d) a l → Chain (a .head) l cs ns ys g k
-      → Chain h l (instant L d ∷ cs) (a .refusal ∷ ns) ys g k
+  changed : {h g : Head} {l k : List ℤ} {to : Tuning} {cs : List Call} {ns : List ℕ} {ys : List ℤ} {a : Answer}
+      → On h l (instant to) a l → Chain (a .head) l cs ns ys g k
+      → Chain h l (instant to ∷ cs) (a .refusal ∷ ns) ys g k
   -- a block with the input xs, whose lent output was before and then is out
   rendered : {h g : Head} {l m k : List ℤ} {cs : List Call} {ns : List ℕ} {ys : List ℤ} {a : Answer}
       (xs before : List ℤ) {out : List ℤ} → On h l (block xs (length before)) a m

@@ -6,18 +6,20 @@ use Prim.Native.Nat.{ℕ, _-_}
 use lib.Dec.{leb, ltb, eqb}
 use lib.IntN.{ℤ}
 use lib.ListN.{take, drop}
+use Rattle.rule.specs.Voice.{tuning}
 use Rattle.rule.specs.Calls.{Call, block, loss, pluck, announce, ask, instant, commit, withdraw}
 
 -- Kind 0 is a block that takes a samples from the input and lends an output of b; 1 a loss a; 2 a pluck of
--- amplitude a, count b and seed c; 3 an announced change, 4 an instant one and 5 an ask, to length a and
--- delay b; 6 a commit and 7 a withdrawal. Words that a kind does not use are not looked at.
+-- amplitude a, count b and seed c; 3 an announced change, 4 an instant one and 5 an ask, to order a, length b
+-- and delay c; 6 a commit and 7 a withdrawal. Words that a kind does not use are not looked at.
 abbrev pub called : ℕ → ℕ → ℕ → ℕ → List ℤ → Call
 called kind a b c xs =
     cond (eqb kind 0) (block (take a xs) b)
     (cond (eqb kind 1) (loss a)
     (cond (eqb kind 2) (pluck a b c)
-    (cond (eqb kind 3) (announce a b)
-    (cond (eqb kind 4) (instant a b) (cond (eqb kind 5) (ask a b) (cond (eqb kind 6) commit withdraw))))))
+    (cond (eqb kind 3) (announce (tuning a b c))
+    (cond (eqb kind 4) (instant (tuning a b c))
+    (cond (eqb kind 5) (ask (tuning a b c)) (cond (eqb kind 6) commit withdraw))))))
 
 abbrev pub last-kind : ℕ
 last-kind = 7

@@ -44,14 +44,14 @@ fn changed(line: &[i32; 2112], head: Head, w: Item) -> Answer
         → On head (now (line .entry)) (called (w .kind) (w .a) (w .b) (w .c) xs) r (now (line .entry))) ⌝ }
 {
     if w.kind == 3 {
-        return announce(head, w.a, w.b);
+        return announce(head, w.a, w.b, w.c);
     }
     if w.kind == 4 {
-        let r = instant(line, head, w.a, w.b);
+        let r = instant(line, head, w.a, w.b, w.c);
         return r.answer;
     }
     if w.kind == 5 {
-        return ask(head, w.a, w.b);
+        return ask(head, w.a, w.b, w.c);
     }
     ended(head, w.kind)
 }

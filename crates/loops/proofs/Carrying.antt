@@ -26,7 +26,7 @@ use Rattle.step.specs.declared.feedback.Circulated.{Circulated}
 use Rattle.step.specs.Sample.{Moved, Settles, Circulates, Steps}
 use Rattle.step.proofs.Silent.{sounds-none}
 use Rattle.step.proofs.Settles.{settles-idle, settles}
-use Rattle.step.proofs.Steps.{heard-fit, heard-waiting, steps}
+use Rattle.step.proofs.Steps.{heard-fit, steps}
 use Rattle.loops.specs.Carried.{anewOf, carriedOf}
 
 -- ---- filters
@@ -76,24 +76,24 @@ module _ (h : Head) {f : Filter} {y : Value} {at : ℕ} {l : List ℤ} {x : ℤ}
     led-steps =
         let o = sounds-none (v .fit .pluck) z in
         steps v o c {g = back (ring at l) (e .tuning .length)} refl
-        (settles (heard-fit v o c) (heard-waiting v o c) m)
+        (settles (heard-fit v o c) i t m)
 
 -- ---- a change that waits
 pub due-later : (h : Head) (i : Kind) (e : Filter) (k : ℕ) → (kindOf i ≡ announced → k < h .advance)
     → settledOf h i e k ≡ withOf h (h .filter) (Prepared i e k)
 due-later h i e k l = rw (commits-not (kindOf i) k (h .advance) l)
 
-pub due-self : {N : ℕ} {i : Kind} {e : Filter} {t k : ℕ} (h : Head)
-    → N ≡ h .filter .tuning .order → N ≡ e .tuning .order
+pub due-self : {N K : ℕ} {i : Kind} {e : Filter} {t k : ℕ} (h : Head)
+    → N ≡ h .filter .tuning .order → K ≡ e .tuning .order
     → h .waiting ≡ Prepared i e t → k ≡ t → (kindOf i ≡ announced → t < h .advance)
     → settledOf (carriedOf h (anewOf N (h .filter) (h .filter .state)) (h .last) (h .at)) i
-    (anewOf N e (e .state)) k ≡ h
-due-self {N} {i} {e} {t} {k} h p j w z early =
+    (anewOf K e (e .state)) k ≡ h
+due-self {N} {K} {i} {e} {t} {k} h p j w z early =
     let f = anewOf N (h .filter) (h .filter .state) in
-    let waits = ap (λ (n : ℕ). Prepared i (anewOf N e (e .state)) n) z
+    let waits = ap (λ (n : ℕ). Prepared i (anewOf K e (e .state)) n) z
     ∙ ap (λ (e : Filter). Prepared i e t) (anew-self e j) in
-    due-later (carriedOf h f (h .last) (h .at)) i (anewOf N e (e .state)) k (λ a. omega (arith, early a))
-    ∙ ap (λ (f : Filter). withOf h f (Prepared i (anewOf N e (e .state)) k)) (anew-self (h .filter) p)
+    due-later (carriedOf h f (h .last) (h .at)) i (anewOf K e (e .state)) k (λ a. omega (arith, early a))
+    ∙ ap (λ (f : Filter). withOf h f (Prepared i (anewOf K e (e .state)) k)) (anew-self (h .filter) p)
     ∙ ap (λ (x : Waiting). withOf h (h .filter) x) (waits ∙ sym w)
 
 pub due-as : (h : Head) (y : Value) (at : ℕ) (i : Kind) {f g d e : Filter} {t u : ℕ} → f ≡ g → d ≡ e → t ≡ u

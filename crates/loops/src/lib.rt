@@ -58,6 +58,7 @@ fn idle(line: &mut [i32; 2112], order: u32, h: Head, buffer: &mut [i32]) -> Head
 fn waiting(
     line: &mut [i32; 2112],
     order: u32,
+    coming: u32,
     h: Head,
     e: Filter,
     taken: u32,
@@ -65,7 +66,8 @@ fn waiting(
 ) -> Beside
     requires { ⌜ Valid h (now line) × (loudest (now buffer) ≤ M)
         × Lasts (kindIn (h .waiting)) (taken + length (now buffer)) (h .advance) ⌝ }
-    requires { ⌜ (order ≡ h .filter .tuning .order) × (h .waiting ≡ Prepared (kindIn (h .waiting)) e taken)
+    requires { ⌜ (order ≡ h .filter .tuning .order) × (coming ≡ e .tuning .order)
+        × (h .waiting ≡ Prepared (kindIn (h .waiting)) e taken)
         × (h .pluck .left ≡ 0) ⌝ }
     ensures { λ r. ⌜ Rendered (now (buffer .entry)) (stateOf h (now (line .entry))) (now (buffer .exit))
         (stateOf
@@ -90,14 +92,14 @@ fn waiting(
         let r = circulate(line, f, h.loss, last, at, x, Value { n: 0 });
         last = r.y;
         samples::write(buffer, i, last);
-        let n = moved(anew(order, e, u), g);
+        let n = moved(anew(coming, e, u), g);
         v = r.filter.state;
         u = n.state;
         at = r.at;
         i = i + 1;
     }
     let head = carried(h, anew(order, h.filter, v), last, at);
-    let next = anew(order, e, u);
+    let next = anew(coming, e, u);
     Beside {
         head: head,
         next: next,
@@ -121,8 +123,9 @@ pub fn while_idle(line: &mut [i32; 2112], h: Head, buffer: &mut [i32]) -> Head
     idle(line, 3, h, buffer)
 }
 
-// The same while a change waits, before it may be put in force.
-fn by_order(line: &mut [i32; 2112], h: Head, e: Filter, taken: u32, buffer: &mut [i32]) -> Beside
+// The same while a change waits, before it may be put in force, by the loop of both orders, that of the filter and that
+// of the change: each call names them, so that a loop is compiled for each pair.
+fn by_orders(line: &mut [i32; 2112], h: Head, e: Filter, taken: u32, buffer: &mut [i32]) -> Beside
     requires { ⌜ Valid h (now line) × (loudest (now buffer) ≤ M)
         × Lasts (kindIn (h .waiting)) (taken + length (now buffer)) (h .advance) ⌝ }
     requires { ⌜ (h .waiting ≡ Prepared (kindIn (h .waiting)) e taken) × (h .pluck .left ≡ 0) ⌝ }
@@ -137,13 +140,18 @@ fn by_order(line: &mut [i32; 2112], h: Head, e: Filter, taken: u32, buffer: &mut
         (min (taken + length (now (buffer .entry))) (h .advance)))
         (now (line .exit)) ⌝ }
 {
-    if h.filter.tuning.order == 1 {
-        return waiting(line, 1, h, e, taken, buffer);
+    let pair = 10 * h.filter.tuning.order + e.tuning.order;
+    match pair {
+        11 => waiting(line, 1, 1, h, e, taken, buffer),
+        12 => waiting(line, 1, 2, h, e, taken, buffer),
+        13 => waiting(line, 1, 3, h, e, taken, buffer),
+        21 => waiting(line, 2, 1, h, e, taken, buffer),
+        22 => waiting(line, 2, 2, h, e, taken, buffer),
+        23 => waiting(line, 2, 3, h, e, taken, buffer),
+        31 => waiting(line, 3, 1, h, e, taken, buffer),
+        32 => waiting(line, 3, 2, h, e, taken, buffer),
+        _ => waiting(line, 3, 3, h, e, taken, buffer),
     }
-    if h.filter.tuning.order == 2 {
-        return waiting(line, 2, h, e, taken, buffer);
-    }
-    waiting(line, 3, h, e, taken, buffer)
 }
 
 // So many samples more, counted up to the advance.
@@ -174,7 +182,7 @@ pub fn while_waiting(
     ensures { λ r. ⌜ Valid r (now (line .exit)) ⌝ }
 {
     let n = buffer.len();
-    let p = by_order(line, h, e, taken, buffer);
+    let p = by_orders(line, h, e, taken, buffer);
     let head = p.head;
     let next = p.next;
     settle(head, kind, next, counted(taken, n, h.advance))

@@ -33,9 +33,6 @@ fn refused(order: u32, length: u32, delay: u32, loss: u32, advance: u32) -> u32
     ensures { λ r. ⌜ r
         ≡ refusal (openLimits (record { N = order; L = length; d = delay; G = loss; Na = advance })) ⌝ }
 {
-    if refusal::outside(order, 1, refusal::ORDERS) {
-        return refusal::ORDER;
-    }
     let a = untuned(order, length, delay);
     let b = tested(a, refusal::LOSS, loss, 0, refusal::MOST_LOSS);
     tested(b, refusal::ADVANCE, advance, 0, refusal::MOST_ADVANCE)

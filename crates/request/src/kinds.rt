@@ -84,8 +84,8 @@ pub fn wanted(kind: u32) -> usize
 {
     match kind {
         OPEN => 5,
-        PLUCK | LENGTH | NOTE => 3,
-        ANNOUNCE | INSTANT | ASK | COEFFICIENTS | WAVWRITE => 2,
+        PLUCK | ANNOUNCE | INSTANT | ASK | LENGTH | NOTE => 3,
+        COEFFICIENTS | WAVWRITE => 2,
         LOSS | BLOCK | DRAW | RUN | LINE | WAVREAD => 1,
         _ => 0,
     }

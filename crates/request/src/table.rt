@@ -1,12 +1,12 @@
 // What each call takes, a row for each kind from OPEN to HELP in their order; then what is said of a line whose
 // name is none of these, and of one that is too long. No row has more than 64 bytes. specs/Table.antt has it too.
-pub const TABLE: [u8; 602] = *b"\
+pub const TABLE: [u8; 608] = *b"\
     open takes N L D G NA\n\
     loss takes G\n\
     pluck takes A COUNT SEED\n\
-    announce takes L D\n\
-    instant takes L D\n\
-    ask takes L D\n\
+    announce takes N L D\n\
+    instant takes N L D\n\
+    ask takes N L D\n\
     commit takes nothing\n\
     withdraw takes nothing\n\
     block takes OUT X1 X2 .. (at most 4096 each)\n\

@@ -4,25 +4,24 @@ use mathlib.Core.Path.{_≡_, sym, ap, _∙_}
 use mathlib.Core.Option.{some}
 use Prim.Native.Nat.{ℕ}
 use Rattle.refusal.specs.Orders.{Takes}
-use Rattle.rule.specs.Voice.{announced, Waiting, Voice}
-use Rattle.rule.specs.Calls.{to}
-use Rattle.rule.specs.Valid.{Tunable, Valid}
+use Rattle.rule.specs.Voice.{Tuning, announced, Waiting, Voice}
+use Rattle.rule.specs.Valid.{Tunable}
 use Rattle.rule.specs.Refusals.{ChangeReturns, Asked}
 use Rattle.rule.proofs.Keeps.{none-some, same-some, announced-asked}
 
 -- an accepted change's tuning is fit
-pub accepted-fit : {v : Voice} (L d : ℕ) {n : ℕ} → Valid v → ChangeReturns v L d n → n ≡ 0 → Tunable (to v L d)
-accepted-fit {v} L d h r e =
+pub accepted-fit : {v : Voice} (to : Tuning) {n : ℕ} → ChangeReturns v (to .N) (to .L) (to .d) n → n ≡ 0
+    → Tunable to
+accepted-fit to r e =
     let p = r .accepted .0 e in
-    let t = h .fit .takes in
-    let takes : Takes (v .tuning .N) d
-    = record { least = t .least; most = t .most; low = p .1 .0 .least; high = p .1 .0 .most } in
-    record { takes = takes; short = p .0 .least; long = p .0 .most }
+    let takes : Takes (to .N) (to .d)
+    = record { least = p .0 .least; most = p .0 .most; low = p .1 .1 .0 .least; high = p .1 .1 .0 .most } in
+    record { takes = takes; short = p .1 .0 .least; long = p .1 .0 .most }
 
 -- none is accepted while one waits
-pub not-while : {v : Voice} {w : Waiting} (L d : ℕ) {n : ℕ} → ChangeReturns v L d n → n ≡ 0
-    → v .waiting ≡ some w → ⊥
-not-while L d r e p = none-some (sym (r .accepted .0 e .1 .1) ∙ p)
+pub not-while : {v : Voice} {w : Waiting} (to : Tuning) {n : ℕ} → ChangeReturns v (to .N) (to .L) (to .d) n
+    → n ≡ 0 → v .waiting ≡ some w → ⊥
+not-while to r e p = none-some (sym (r .accepted .0 e .1 .1 .1) ∙ p)
 
 -- and an announced change is none that was asked for
 pub not-announced : {v : Voice} {w : Waiting} {P : ℕ → Type 0} → Asked v P → v .waiting ≡ some w

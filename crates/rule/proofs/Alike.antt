@@ -50,9 +50,9 @@ module _ (v : Voice) (r q : ℕ → ℤ) (g : Valid v) (e : Alike r q) where
   done-alike (block xs n) z = refl
   done-alike (loss G) z = refl
   done-alike (pluck a n s) z = refl
-  done-alike (prepare k L d) z = refl
+  done-alike (prepare k to) z = refl
   done-alike commit z = refl
   done-alike withdraw z = refl
-  done-alike (instant L d) z =
-      let f = accepted-fit L d g (refuses .instants v L d) z in
-      rw (window-alike r q L (v .Na) e (omega (arith, g .advance, f .long)))
+  done-alike (instant to) z =
+      let f = accepted-fit to (refuses .instants v to) z in
+      rw (window-alike r q (to .L) (v .Na) e (omega (arith, g .advance, f .long)))

@@ -10,7 +10,7 @@ use lib.IntN.{ℤ}
 use Rattle.allpass.specs.Allpass.{next, run}
 use Rattle.rule.specs.Voice.{Tuning, announced, asked, Waiting, A, rest, fed}
 use Rattle.rule.specs.Calls.{Call, block, loss, pluck, announce, prepare, instant, commit, withdraw}
-use Rattle.rule.specs.Calls.{number, start, done, to, window}
+use Rattle.rule.specs.Calls.{number, start, done, window}
 use Rattle.rule.specs.History.{History, steps, ago, step, told}
 use Rattle.rule.specs.Click.{Change, announcing, instantly, committing}
 use Rattle.rule.specs.Valid.{Tunable}
@@ -102,19 +102,19 @@ module _ (t : Tuning) (f : Tunable t) (a e m : ℕ) (due : e ≤ m) where
   course-told h (loss G) g z late l (ruling q b r k) = ruling q b r k
   course-told h (pluck i j s) g z late l (coming w p κ q n b) = coming w p κ q n b
   course-told h (pluck i j s) g z late l (ruling q b r k) = ruling q b r k
-  course-told h (instant L d) g z late l c = let k = late _ _ _ (instantly z) in absurd (omega arith)
-  course-told h (prepare k L d) g z late l (coming w p κ q n b) =
-      absurd (not-while L d (refuses .prepares (h .voice) k L d) z p)
-  course-told h (prepare asked L d) g z late l (ruling q b r k) =
-      let i = keeps (h .voice) (ago h) .ask-waits L d in
+  course-told h (instant to) g z late l c = let k = late _ _ _ (instantly z) in absurd (omega arith)
+  course-told h (prepare k to) g z late l (coming w p κ q n b) =
+      absurd (not-while to (refuses .prepares (h .voice) k to) z p)
+  course-told h (prepare asked to) g z late l (ruling q b r k) =
+      let i = keeps (h .voice) (ago h) .ask-waits to in
       ruling (i .tuning ∙ q) b (i .state ∙ r)
       (λ w p y. absurd
-      (announced-asked y (sym (ap (λ (u : Waiting). u .kind) (prepared-waits (h .voice) (ago h) asked L d p)))))
-  course-told h (prepare announced L d) g z late l (ruling q b r k) =
+      (announced-asked y (sym (ap (λ (u : Waiting). u .kind) (prepared-waits (h .voice) (ago h) asked to p)))))
+  course-told h (prepare announced to) g z late l (ruling q b r k) =
       let j : m < steps h + h .voice .Na = omega (arith, late _ _ _ (announcing z)) in
-      let i = keeps (h .voice) (ago h) .announce-waits L d (omega arith) in
+      let i = keeps (h .voice) (ago h) .announce-waits to (omega arith) in
       ruling (i .tuning ∙ q) b (i .state ∙ r)
-      (λ w p y. omega (arith, keeps (h .voice) (ago h) .prepare-rest announced L d .advance))
+      (λ w p y. omega (arith, keeps (h .voice) (ago h) .prepare-rest announced to .advance))
   course-told h commit g z late l (coming w p κ q n b) =
       absurd (not-announced (refuses .commits (h .voice) .accepted .0 z) p κ)
   course-told h commit g z late l (ruling q b r k) =
@@ -127,35 +127,32 @@ module _ (t : Tuning) (f : Tunable t) (a e m : ℕ) (due : e ≤ m) where
       ruling q b r (λ w p y. absurd (none-some p))
 
 -- ---- its start
-module _ (h : History) (L d m : ℕ) (f : Tunable (to (h .voice) L d)) where
-  abbrev t : Tuning
-  t = to (h .voice) L d
+module _ (h : History) (t : Tuning) (m : ℕ) (f : Tunable t) where
+  ran-now : (b c : ℕ) → b ≡ c → Ran h t c (run (A t) (rest t) (window (ago h) (t .L) b))
+  ran-now b c i = ap (λ (j : ℕ). run (A t) (rest t) (window (ago h) (t .L) j)) i
 
-  ran-now : (b c : ℕ) → b ≡ c → Ran h t c (run (A t) (rest t) (window (ago h) L b))
-  ran-now b c i = ap (λ (j : ℕ). run (A t) (rest t) (window (ago h) L j)) i
-
-  pub begins-instant : (due : steps h ≤ m) → Course t f (h .voice .Na) (steps h) m due (told h (instant L d))
+  pub begins-instant : (due : steps h ≤ m) → Course t f (h .voice .Na) (steps h) m due (told h (instant t))
   begins-instant due =
-      let k = keeps (h .voice) (ago h) .instant-now L d in
+      let k = keeps (h .voice) (ago h) .instant-now t in
       ruling (k .tuning) (omega arith)
       (k .state ∙ ran-now (h .voice .Na) (h .voice .Na + (steps h - steps h)) (omega arith))
       (λ w z y. absurd (none-some (sym (k .waiting) ∙ z)))
 
   pub begins-announced : (due : steps h + h .voice .Na ≤ m)
-      → Course t f (h .voice .Na) (steps h + h .voice .Na) m due (told h (announce L d))
+      → Course t f (h .voice .Na) (steps h + h .voice .Na) m due (told h (announce t))
   begins-announced due = go (ℕ-discrete (h .voice .Na) 0)
     where
       go : Dec (h .voice .Na ≡ 0)
-          → Course t f (h .voice .Na) (steps h + h .voice .Na) m due (told h (announce L d))
+          → Course t f (h .voice .Na) (steps h + h .voice .Na) m due (told h (announce t))
       go (yes i) =
-          let k = keeps (h .voice) (ago h) .announce-now L d i in
+          let k = keeps (h .voice) (ago h) .announce-now t i in
           ruling (k .tuning) (omega arith)
           (k .state ∙ ran-now 0 (h .voice .Na + (steps h - (steps h + h .voice .Na))) (omega arith))
           (λ w z y. absurd (none-some (sym (k .waiting) ∙ z)))
       go (no i) =
-          let k = keeps (h .voice) (ago h) .announce-waits L d (omega arith) in
+          let k = keeps (h .voice) (ago h) .announce-waits t (omega arith) in
           coming (start announced t) (k .waiting) refl refl
-          (keeps (h .voice) (ago h) .prepare-rest announced L d .advance) refl
+          (keeps (h .voice) (ago h) .prepare-rest announced t .advance) refl
 
 -- a commit puts in force what has run since the ask
 pub begins-committed : (h : History) (m : ℕ) (w : Waiting) (f : Tunable (w .tuning)) → Sound h

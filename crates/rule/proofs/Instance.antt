@@ -28,11 +28,11 @@ pre = block (pos 0 ∷ pos 0 ∷ []) 2 ∷ []
 abbrev post : List Call
 post = block (pos 5000 ∷ pos 7 ∷ pos 0 ∷ pos 0 ∷ pos 0 ∷ []) 5 ∷ []
 
-abbrev cs : List Call
-cs = block (pos 0 ∷ pos 0 ∷ []) 2 ∷ announce 1 9159 ∷ post
-
 abbrev t : Tuning
 t = record { N = 2; L = 1; d = 9159 }
+
+abbrev cs : List Call
+cs = block (pos 0 ∷ pos 0 ∷ []) 2 ∷ announce t ∷ post
 
 -- what is written: the new filter reads 0 before step 2, and 5,000 at step 3
 line : after o cs .s ≡ pos 0 ∷ pos 0 ∷ pos 5000 ∷ pos 7 ∷ negsuc 325 ∷ pos 1910 ∷ pos 2612 ∷ []
@@ -49,5 +49,5 @@ quiet (suc (suc i)) l = absurd (omega arith)
 pub exactly : getD (puts (fresh o) cs) 4 (pos 0) ≡ new t (after o cs .s) 4
 unfolding call step number opened done stepped settled
 exactly =
-    click o cs pre post (announce 1 9159) t 2 4 4 refl (announcing refl) (none-block 4 _ _ _, tt)
+    click o cs pre post (announce t) t 2 4 4 refl (announcing refl) (none-block 4 _ _ _, tt)
     (omega arith) (omega arith) .same quiet

@@ -11,7 +11,7 @@ use borrow.Author.Tests.{eq-eqb, ne-eqb}
 use lib.Dec.{eqb}
 use lib.IntN.{ℤ}
 use Rattle.rule.specs.Voice.{Tuning, Kind, announced, asked, Waiting, Voice, tuned, commits, settled}
-use Rattle.rule.specs.Calls.{prepare, commit, instant, number, start, done, count, to}
+use Rattle.rule.specs.Calls.{prepare, commit, instant, number, start, done, count}
 use Rattle.rule.specs.Keeps.{Retuned, Keeps}
 use Rattle.rule.proofs.Read.{length-window}
 
@@ -39,31 +39,31 @@ keeps v r = record {
   set-loss = λ G. refl;
   set-pluck = λ a n z. refl;
   announce-waits =
-      λ L d h. rw (ne-eqb 0 (v .Na) (λ e. omega arith))
+      λ to h. rw (ne-eqb 0 (v .Na) (λ e. omega arith))
       (record { tuning = refl; state = refl; waiting = refl });
   announce-now =
-      λ L d e. rw (eq-eqb 0 (v .Na) (sym e)) (record { tuning = refl; state = refl; waiting = refl });
-  ask-waits = λ L d. record { tuning = refl; state = refl; waiting = refl };
-  prepare-rest = λ k L d. either-keeps (commits k 0 (v .Na)) v _ _ _ _ _ _;
+      λ to e. rw (eq-eqb 0 (v .Na) (sym e)) (record { tuning = refl; state = refl; waiting = refl });
+  ask-waits = λ to. record { tuning = refl; state = refl; waiting = refl };
+  prepare-rest = λ k to. either-keeps (commits k 0 (v .Na)) v _ _ _ _ _ _;
   commit-now = λ w p. rw p (record { tuning = refl; state = refl; waiting = refl });
   commit-rest = commit-keeps v r (v .waiting) refl;
   withdraw-drops = record { tuning = refl; state = refl; waiting = refl };
   withdraw-rest = record { loss = refl; advance = refl; last = refl; pluck = refl };
-  instant-rest = λ L d. record { loss = refl; advance = refl; last = refl; pluck = refl };
-  instant-now = λ L d. record { tuning = refl; state = refl; waiting = refl };
-  counted = λ L d e. let i = eq-eqb (number v (instant L d)) 0 e in (rw (i, length-window r L (v .Na)), rw i);
+  instant-rest = λ to. record { loss = refl; advance = refl; last = refl; pluck = refl };
+  instant-now = λ to. record { tuning = refl; state = refl; waiting = refl };
+  counted = λ to e. let i = eq-eqb (number v (instant to)) 0 e in (rw (i, length-window r (to .L) (v .Na)), rw i);
 }
 
 -- what waits after an announced change or an ask is its eliminator at rest
-pub prepared-waits : (v : Voice) (r : ℕ → ℤ) (k : Kind) (L d : ℕ) {w : Waiting}
-    → done v r (prepare k L d) .waiting ≡ some w
-    → start k (to v L d) ≡ w
-prepared-waits v r asked L d p = same-some (sym (keeps v r .ask-waits L d .waiting) ∙ p)
-prepared-waits v r announced L d {w} p = go (ℕ-discrete (v .Na) 0)
+pub prepared-waits : (v : Voice) (r : ℕ → ℤ) (k : Kind) (to : Tuning) {w : Waiting}
+    → done v r (prepare k to) .waiting ≡ some w
+    → start k to ≡ w
+prepared-waits v r asked to p = same-some (sym (keeps v r .ask-waits to .waiting) ∙ p)
+prepared-waits v r announced to {w} p = go (ℕ-discrete (v .Na) 0)
   where
-    go : Dec (v .Na ≡ 0) → start announced (to v L d) ≡ w
-    go (yes e) = absurd (none-some (sym (keeps v r .announce-now L d e .waiting) ∙ p))
-    go (no f) = same-some (sym (keeps v r .announce-waits L d (omega arith) .waiting) ∙ p)
+    go : Dec (v .Na ≡ 0) → start announced to ≡ w
+    go (yes e) = absurd (none-some (sym (keeps v r .announce-now to e .waiting) ∙ p))
+    go (no f) = same-some (sym (keeps v r .announce-waits to (omega arith) .waiting) ∙ p)
 
 pub announced-asked : {k : Kind} → k ≡ announced → k ≡ asked → ⊥
 announced-asked e i = let z : _≡_ {A = ℕ} 0 1 = cc in omega arith

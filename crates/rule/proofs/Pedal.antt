@@ -6,7 +6,7 @@ use mathlib.Core.Option.{some}
 use Prim.Native.Nat.{ℕ, _-_, min}
 use native.Mathlib.Omega.{arith}
 use Rattle.rule.specs.Voice.{Tuning, Waiting}
-use Rattle.rule.specs.Calls.{Call, ask, commit, withdraw, Opening, number, to}
+use Rattle.rule.specs.Calls.{Call, ask, commit, withdraw, Opening, number}
 use Rattle.rule.specs.History.{History, steps, call, after}
 use Rattle.rule.specs.Refusals.{Asked}
 use Rattle.rule.specs.Click.{Change, committing}
@@ -18,24 +18,24 @@ use Rattle.rule.proofs.Walk.{after-split}
 use Rattle.rule.proofs.Sound.{Runs, after-sound}
 use Rattle.rule.proofs.Stands.{Stands, stands-ask, stands-kept}
 
-module _ (o : Opening) (pre mid : List Call) (L d : ℕ) where
+module _ (o : Opening) (pre mid : List Call) (to : Tuning) where
   abbrev h : History
   h = after o pre
 
   abbrev now : History
-  now = after o (pre ++ ask L d ∷ mid)
+  now = after o (pre ++ ask to ∷ mid)
 
-  module _ (z : number (h .voice) (ask L d) ≡ 0) (k : Kept (call h (ask L d)) mid) where
-    stands : Stands (to (h .voice) L d) (steps h) now
+  module _ (z : number (h .voice) (ask to) ≡ 0) (k : Kept (call h (ask to)) mid) where
+    stands : Stands to (steps h) now
     stands =
-        rw (after-split o pre mid (ask L d) refl)
-        (stands-kept (to (h .voice) L d) (steps h) mid (call h (ask L d)) k (stands-ask h L d z))
+        rw (after-split o pre mid (ask to) refl)
+        (stands-kept to (steps h) mid (call h (ask to)) k (stands-ask h to z))
 
     runs : Runs now (stands .w)
-    runs = after-sound o (pre ++ ask L d ∷ mid) .waiting (stands .w) (stands .held)
+    runs = after-sound o (pre ++ ask to ∷ mid) .waiting (stands .w) (stands .held)
 
     -- as many were taken as were put out, counted up to Na
-    taken : stands .w .taken ≡ min (between o pre mid L d) (now .voice .Na)
+    taken : stands .w .taken ≡ min (between o pre mid to) (now .voice .Na)
     taken = rw (stands .began) at (runs .taken)
 
     -- what is known of an ask that waits is known of this one
@@ -45,7 +45,7 @@ module _ (o : Opening) (pre mid : List Call) (L d : ℕ) where
     this : {P : ℕ → Type 0} → P (stands .w .taken) → Asked (now .voice) P
     this p = record { w = stands .w; held = stands .held; kind = stands .kind; taken = p }
 
-    pub pedal : Pedal o pre mid L d
+    pub pedal : Pedal o pre mid to
     pedal =
         let r = refuses .commits (now .voice) in
         record {
@@ -59,10 +59,10 @@ module _ (o : Opening) (pre mid : List Call) (L d : ℕ) where
           );
           withdrawable = refuses .withdraws (now .voice) .accepted .1 (this tt);
           change = λ e.
-              subst (λ (t : Tuning). Change now commit t (between o pre mid L d) (steps now)) (stands .tuning)
+              subst (λ (t : Tuning). Change now commit t (between o pre mid to) (steps now)) (stands .tuning)
               (subst (λ (b : ℕ). Change now commit (stands .w .tuning) (steps now - b) (steps now))
               (stands .began) (committing e (stands .held)));
         }
 
-pub pedals : (o : Opening) (pre mid : List Call) (L d : ℕ) → Pedals o pre mid L d
+pub pedals : (o : Opening) (pre mid : List Call) (to : Tuning) → Pedals o pre mid to
 pedals = pedal

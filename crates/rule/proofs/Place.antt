@@ -128,17 +128,17 @@ pub record Begun (h : History) (c : Call) (t : Tuning) (a e m : ℕ) (due : e �
 
 pub begins : (h : History) {c : Call} {t : Tuning} {a e m : ℕ} → Sound h → Change h c t a e → (due : e ≤ m)
     → Begun h c t a e m due
-begins h {m} g (announcing {L} {d} z) due =
-    let f = accepted-fit L d (g .valid) (refuses .prepares (h .voice) announced L d) z in
+begins h {m} g (announcing {to} z) due =
+    let f = accepted-fit to (refuses .prepares (h .voice) announced to) z in
     record {
       fit = f;
-      place = rw (call-accepted h (announce L d) z) (ahead (omega arith) (begins-announced h L d m f due));
+      place = rw (call-accepted h (announce to) z) (ahead (omega arith) (begins-announced h to m f due));
     }
-begins h {m} g (instantly {L} {d} z) due =
-    let f = accepted-fit L d (g .valid) (refuses .instants (h .voice) L d) z in
+begins h {m} g (instantly {to} z) due =
+    let f = accepted-fit to (refuses .instants (h .voice) to) z in
     record {
       fit = f;
-      place = rw (call-accepted h (instant L d) z) (ahead (omega arith) (begins-instant h L d m f due));
+      place = rw (call-accepted h (instant to) z) (ahead (omega arith) (begins-instant h to m f due));
     }
 begins h {m} g (committing {w} z p) due =
     let f = g .valid .waiting w p .fit in

@@ -16,7 +16,7 @@ use Rattle.refusal.specs.Orders.{order, delay}
 use Rattle.refusal.proofs.Tests.{refused, accepted}
 use Rattle.samples.specs.Samples.{loudest}
 use Rattle.allpass.specs.Bounds.{Within, none, more}
-use Rattle.rule.specs.Voice.{Kind, announced, asked, Waiting, Voice}
+use Rattle.rule.specs.Voice.{Tuning, Kind, announced, asked, Waiting, Voice}
 use Rattle.rule.specs.Tests.{long, lossy, early, waitings, idle, askings, asks, asking, takings, ready}
 use Rattle.rule.specs.Tests.{strong, lasting, matched, loud}
 use Rattle.rule.specs.Calls.{block, loss, pluck, instant, commit, withdraw, Opening, openLimits}
@@ -64,24 +64,26 @@ opens o =
       accepted = accepted n (l ∷ d ∷ g ∷ a ∷ []) tt;
     }
 
-changes : (v : Voice) (L d : ℕ) → ChangeReturns v L d (refusal (changeLimits v L d))
-changes v L d =
-    let l = long L in
-    let k = delay (v .tuning .N) d in
+changes : (v : Voice) (to : Tuning) → ChangeReturns v (to .N) (to .L) (to .d) (refusal (changeLimits v to))
+changes v to =
+    let n = order (to .N) in
+    let l = long (to .L) in
+    let k = delay (to .N) (to .d) in
     let i = idle (v .waiting) in
     let w = none-waits (v .waiting) in
-    let six = refused (l ∷ k ∷ []) i [] tt in
-    let zero = accepted l (k ∷ i ∷ []) tt in
+    let six = refused (n ∷ l ∷ k ∷ []) i [] tt in
+    let zero = accepted n (l ∷ k ∷ i ∷ []) tt in
     record {
-      length = refused [] l (k ∷ i ∷ []) tt;
-      delay = refused (l ∷ []) k (i ∷ []) tt;
+      order = refused [] n (l ∷ k ∷ i ∷ []) tt;
+      length = refused (n ∷ []) l (k ∷ i ∷ []) tt;
+      delay = refused (n ∷ l ∷ []) k (i ∷ []) tt;
       waits = (
-        λ e. let p = six .0 e in (p .0, (p .1 .0, λ z. p .1 .1 (w .1 z))),
-        λ p. six .1 (p .0, (p .1 .0, λ z. p .1 .1 (w .0 z))),
+        λ e. let p = six .0 e in (p .0, (p .1 .0, (p .1 .1 .0, λ z. p .1 .1 .1 (w .1 z)))),
+        λ p. six .1 (p .0, (p .1 .0, (p .1 .1 .0, λ z. p .1 .1 .1 (w .0 z)))),
       );
       accepted = (
-        λ e. let p = zero .0 e in (p .0, (p .1 .0, w .0 (p .1 .1))),
-        λ p. zero .1 (p .0, (p .1 .0, w .1 (p .1 .1))),
+        λ e. let p = zero .0 e in (p .0, (p .1 .0, (p .1 .1 .0, w .0 (p .1 .1 .1)))),
+        λ p. zero .1 (p .0, (p .1 .0, (p .1 .1 .0, w .1 (p .1 .1 .1)))),
       );
     }
 
@@ -189,7 +191,7 @@ pub refuses : Refuses
 unfolding number opened call put count
 refuses = record {
   opens = opens;
-  prepares = λ v k L d. changes v L d;
+  prepares = λ v k to. changes v to;
   instants = changes;
   commits = commits;
   withdraws = withdraws;
@@ -203,5 +205,5 @@ refuses = record {
   resting = λ o e. rw (eq-eqb (refusal (openLimits o)) 0 e) (rests (o .N) (o .L) (o .d) (o .G) (o .Na));
   resting-refused = λ o f. rw (ne-eqb (refusal (openLimits o)) 0 f) (rests 1 1 4096 0 0);
   unchanged = λ v c f. let e = ne-eqb (number (v .voice) c) 0 f in (rw e, rw e);
-  uncounted = λ v L d f. rw (ne-eqb (number v (instant L d)) 0 f);
+  uncounted = λ v to f. rw (ne-eqb (number v (instant to)) 0 f);
 }

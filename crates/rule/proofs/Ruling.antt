@@ -9,7 +9,7 @@ use native.Mathlib.Decide.{decLt, ℕ-discrete}
 use lib.IntN.{ℤ}
 use Rattle.rule.specs.Voice.{Tuning, announced, asked}
 use Rattle.rule.specs.Calls.{Call, block, loss, pluck, prepare, instant, commit, withdraw, Opening}
-use Rattle.rule.specs.Calls.{number, to}
+use Rattle.rule.specs.Calls.{number}
 use Rattle.rule.specs.History.{History, steps, call, from, fresh}
 use Rattle.rule.specs.Click.{Change, announcing, instantly, committing, NoneBy}
 use Rattle.rule.specs.Demands.{Rules, Single}
@@ -20,9 +20,9 @@ abbrev when : History → Call → Option ℕ
 when h (block xs n) = none
 when h (loss G) = none
 when h (pluck a n z) = none
-when h (prepare announced L d) = some (steps h + h .voice .Na)
-when h (prepare asked L d) = none
-when h (instant L d) = some (steps h)
+when h (prepare announced to) = some (steps h + h .voice .Na)
+when h (prepare asked to) = none
+when h (instant to) = some (steps h)
 when h commit = some (steps h)
 when h withdraw = none
 
@@ -63,13 +63,13 @@ taken : (m : ℕ) (h : History) (c : Call) → Taken m h c
 taken m h (block xs n) = late (none-block m h xs n)
 taken m h (loss G) = late (λ t a e k. absurd (unchanged h (loss G) refl k))
 taken m h (pluck i j s) = late (λ t a e k. absurd (unchanged h (pluck i j s) refl k))
-taken m h (prepare announced L d) =
-    changed m h (prepare announced L d) (steps h + h .voice .Na)
-    (λ z. record { t = to (h .voice) L d; a = h .voice .Na; change = announcing z })
-taken m h (prepare asked L d) = late (λ t a e k. absurd (unchanged h (prepare asked L d) refl k))
-taken m h (instant L d) =
-    changed m h (instant L d) (steps h)
-    (λ z. record { t = to (h .voice) L d; a = h .voice .Na; change = instantly z })
+taken m h (prepare announced to) =
+    changed m h (prepare announced to) (steps h + h .voice .Na)
+    (λ z. record { t = to; a = h .voice .Na; change = announcing z })
+taken m h (prepare asked to) = late (λ t a e k. absurd (unchanged h (prepare asked to) refl k))
+taken m h (instant to) =
+    changed m h (instant to) (steps h)
+    (λ z. record { t = to; a = h .voice .Na; change = instantly z })
 taken m h commit =
     changed m h commit (steps h)
     (λ z.

@@ -14,7 +14,7 @@ use Rattle.allpass.specs.Bounds.{Within, none, more}
 use Rattle.allpass.proofs.Contraction.{run-append}
 use Rattle.rule.specs.Voice.{Tuning, Waiting, Voice, A, rest, output, written}
 use Rattle.rule.specs.Calls.{Call, block, loss, pluck, prepare, instant, commit, withdraw, Opening}
-use Rattle.rule.specs.Calls.{number, done, to, window}
+use Rattle.rule.specs.Calls.{number, done, window}
 use Rattle.rule.specs.History.{History, read, steps, ago, step, told, call, fresh, after}
 use Rattle.rule.specs.Valid.{Valid, Samples}
 use Rattle.rule.proofs.Read.{read-at, read-step, read-before, read-within, window-grows}
@@ -121,14 +121,14 @@ waiting-told h (loss G) e g w p =
     let i = g .waiting w p in record { since = i .since; taken = i .taken; ran = i .ran }
 waiting-told h (pluck a n z) e g w p =
     let i = g .waiting w p in record { since = i .since; taken = i .taken; ran = i .ran }
-waiting-told h (prepare k L d) e g w p =
-    subst (Runs (told h (prepare k L d))) (prepared-waits (h .voice) (ago h) k L d p)
+waiting-told h (prepare k to) e g w p =
+    subst (Runs (told h (prepare k to))) (prepared-waits (h .voice) (ago h) k to p)
     (record {
       since = omega arith;
       taken = omega arith;
-      ran = ran-none h (to (h .voice) L d) (steps h - steps h) (omega arith);
+      ran = ran-none h to (steps h - steps h) (omega arith);
     })
-waiting-told h (instant L d) e g w p = absurd (none-some p)
+waiting-told h (instant to) e g w p = absurd (none-some p)
 waiting-told h commit e g w p =
     let k = refuses .commits (h .voice) .accepted .0 e in
     absurd (none-some (sym (keeps (h .voice) (ago h) .commit-now (k .w) (k .held) .waiting) ∙ p))
@@ -139,8 +139,8 @@ unfolding done
 last-told v r (block xs n) = refl
 last-told v r (loss G) = refl
 last-told v r (pluck a n z) = refl
-last-told v r (prepare k L d) = keeps v r .prepare-rest k L d .last
-last-told v r (instant L d) = refl
+last-told v r (prepare k to) = keeps v r .prepare-rest k to .last
+last-told v r (instant to) = refl
 last-told v r commit = keeps v r .commit-rest .last
 last-told v r withdraw = refl
 
@@ -177,8 +177,8 @@ unfolding done
 advance-told h (block xs n) = refl
 advance-told h (loss G) = refl
 advance-told h (pluck a n z) = refl
-advance-told h (prepare k L d) = keeps (h .voice) (ago h) .prepare-rest k L d .advance
-advance-told h (instant L d) = refl
+advance-told h (prepare k to) = keeps (h .voice) (ago h) .prepare-rest k to .advance
+advance-told h (instant to) = refl
 advance-told h commit = keeps (h .voice) (ago h) .commit-rest .advance
 advance-told h withdraw = refl
 

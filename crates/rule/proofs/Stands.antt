@@ -9,7 +9,7 @@ use native.Mathlib.Decide.{ℕ-discrete}
 use lib.IntN.{ℤ}
 use Rattle.rule.specs.Voice.{Tuning, announced, asked, Waiting, fed}
 use Rattle.rule.specs.Calls.{Call, block, loss, pluck, announce, ask, prepare, instant, commit, withdraw}
-use Rattle.rule.specs.Calls.{number, start, done, to}
+use Rattle.rule.specs.Calls.{number, start, done}
 use Rattle.rule.specs.History.{History, steps, ago, step, told, call, from}
 use Rattle.rule.specs.Demands.{Ends, Kept}
 use Rattle.rule.proofs.Refusals.{refuses}
@@ -55,9 +55,9 @@ module _ (t : Tuning) (b : ℕ) where
       record { w = s .w; held = s .held; kind = s .kind; tuning = s .tuning; began = s .began }
   stands-told h (pluck a n y) f z s =
       record { w = s .w; held = s .held; kind = s .kind; tuning = s .tuning; began = s .began }
-  stands-told h (prepare k L d) f z s =
-      absurd (not-while L d (refuses .prepares (h .voice) k L d) z (s .held))
-  stands-told h (instant L d) f z s = absurd (not-while L d (refuses .instants (h .voice) L d) z (s .held))
+  stands-told h (prepare k to) f z s =
+      absurd (not-while to (refuses .prepares (h .voice) k to) z (s .held))
+  stands-told h (instant to) f z s = absurd (not-while to (refuses .instants (h .voice) to) z (s .held))
   stands-told h commit f z s = absurd (f tt z)
   stands-told h withdraw f z s = absurd (f tt z)
 
@@ -67,13 +67,13 @@ module _ (t : Tuning) (b : ℕ) where
       stands-kept cs (call h c) (k .1)
       (call-keeps (Stands t b) stands-step h c (λ z. stands-told h c (k .0) z s) s)
 
-pub stands-ask : (h : History) (L d : ℕ) → number (h .voice) (ask L d) ≡ 0
-    → Stands (to (h .voice) L d) (steps h) (call h (ask L d))
-stands-ask h L d z =
-    rw (call-accepted h (ask L d) z)
+pub stands-ask : (h : History) (to : Tuning) → number (h .voice) (ask to) ≡ 0
+    → Stands to (steps h) (call h (ask to))
+stands-ask h to z =
+    rw (call-accepted h (ask to) z)
     (record {
-      w = start asked (to (h .voice) L d);
-      held = keeps (h .voice) (ago h) .ask-waits L d .waiting;
+      w = start asked to;
+      held = keeps (h .voice) (ago h) .ask-waits to .waiting;
       kind = refl;
       tuning = refl;
       began = refl;
@@ -115,9 +115,9 @@ module _ (t : Tuning) (b n : ℕ) where
       go (block xs m) z (still w q κ τ e a) = still w q κ τ e a
       go (loss G) z (still w q κ τ e a) = still w q κ τ e a
       go (pluck i j s) z (still w q κ τ e a) = still w q κ τ e a
-      go (prepare k L d) z (still w q κ τ e a) =
-          absurd (not-while L d (refuses .prepares (h .voice) k L d) z q)
-      go (instant L d) z (still w q κ τ e a) = absurd (not-while L d (refuses .instants (h .voice) L d) z q)
+      go (prepare k to) z (still w q κ τ e a) =
+          absurd (not-while to (refuses .prepares (h .voice) k to) z q)
+      go (instant to) z (still w q κ τ e a) = absurd (not-while to (refuses .instants (h .voice) to) z q)
       go commit z (still w q κ τ e a) = absurd (not-announced (refuses .commits (h .voice) .accepted .0 z) q κ)
       go withdraw z (still w q κ τ e a) =
           absurd (not-announced (refuses .withdraws (h .voice) .accepted .0 z) q κ)
@@ -125,14 +125,14 @@ module _ (t : Tuning) (b n : ℕ) where
   pub holds-from : (cs : List Call) (h : History) → Sound h → Holds h → Holds (from h cs)
   holds-from cs h g p = from-keeps Goes-on on-step on-told cs h (g, p) .1
 
-pub holds-announce : (h : History) (L d : ℕ) → number (h .voice) (announce L d) ≡ 0
-    → Holds (to (h .voice) L d) (steps h) (h .voice .Na) (call h (announce L d))
-holds-announce h L d z = rw (call-accepted h (announce L d) z) (go (ℕ-discrete (h .voice .Na) 0))
+pub holds-announce : (h : History) (to : Tuning) → number (h .voice) (announce to) ≡ 0
+    → Holds to (steps h) (h .voice .Na) (call h (announce to))
+holds-announce h to z = rw (call-accepted h (announce to) z) (go (ℕ-discrete (h .voice .Na) 0))
   where
     go : Dec (h .voice .Na ≡ 0)
-        → Holds (to (h .voice) L d) (steps h) (h .voice .Na) (told h (announce L d))
+        → Holds to (steps h) (h .voice .Na) (told h (announce to))
     go (yes e) = gone (omega arith)
     go (no f) =
         let k = keeps (h .voice) (ago h) in
-        still (start announced (to (h .voice) L d)) (k .announce-waits L d (omega arith) .waiting) refl refl
-        refl (k .prepare-rest announced L d .advance)
+        still (start announced to) (k .announce-waits to (omega arith) .waiting) refl refl
+        refl (k .prepare-rest announced to .advance)

@@ -10,7 +10,7 @@ use lib.Dec.{eqb}
 use lib.IntN.{ℤ}
 use Rattle.rule.specs.Voice.{asked, Waiting, Voice, fed, output, written, settled, stepped}
 use Rattle.rule.specs.Calls.{Call, block, loss, pluck, prepare, ask, instant, commit, withdraw, Opening}
-use Rattle.rule.specs.Calls.{number, start, withdrawn, done, inputs, to}
+use Rattle.rule.specs.Calls.{number, start, withdrawn, done, inputs}
 use Rattle.rule.specs.State.{State, back, step, sounds, blockAfter, blockOut, told, call, put, fresh, from, puts}
 use Rattle.rule.specs.Asked.{Plain, AllPlain, Withdrawn, Withdraws}
 use Rattle.rule.proofs.Refusals.{refuses}
@@ -127,8 +127,8 @@ unfolding number done
 twin-call (block xs n) k t = twin-alike (block xs n) refl t t
 twin-call (loss G) k t = twin-alike (loss G) refl t (twin-loss G t)
 twin-call (pluck a n z) k t = twin-alike (pluck a n z) refl t (twin-pluck a n z t)
-twin-call (prepare i L d) k t = absurd k
-twin-call (instant L d) k t = absurd k
+twin-call (prepare i to) k t = absurd k
+twin-call (instant to) k t = absurd k
 twin-call commit k t = absurd k
 twin-call {v} {u} withdraw k t =
     record { twin = twin-withdraw t; put = put-none v withdraw refl ∙ sym (put-none u withdraw refl) }

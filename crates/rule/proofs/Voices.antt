@@ -11,7 +11,7 @@ use borrow.Author.Tests.{le-leb, lt-leb}
 use Rattle.rule.specs.Voice.{Tuning, Kind, announced, asked, Waiting, Pluck, Voice, fed, spent, heard}
 use Rattle.rule.specs.Voice.{stepped}
 use Rattle.rule.specs.Calls.{Call, block, loss, pluck, prepare, instant, commit, withdraw}
-use Rattle.rule.specs.Calls.{number, start, done, to}
+use Rattle.rule.specs.Calls.{number, start, done}
 use Rattle.rule.specs.Valid.{Tunable, Filled, Coming, Plucked, Valid, Samples}
 use Rattle.rule.specs.Keeps.{InForce, Retuned}
 use Rattle.rule.proofs.Refusals.{refuses}
@@ -120,32 +120,28 @@ done-valid v r (pluck a n z) e s h =
         over = λ i. absurd (omega (arith, p .1 .least));
       };
     }
-done-valid v r (prepare k L d) e s h = go k (ℕ-discrete (v .Na) 0)
+done-valid v r (prepare k to) e s h = go k (ℕ-discrete (v .Na) 0)
   where
-    t : Tuning
-    t = to v L d
+    f : Tunable to
+    f = accepted-fit to (refuses .prepares v k to) e
 
-    f : Tunable t
-    f = accepted-fit L d h (refuses .prepares v k L d) e
+    begins : (k : Kind) → (k ≡ announced → 0 < v .Na) → Coming (v .Na) (start k to)
+    begins k l = record { fit = f; counted = omega arith; early = l; state = rest-filled to }
 
-    begins : (k : Kind) → (k ≡ announced → 0 < v .Na) → Coming (v .Na) (start k t)
-    begins k l = record { fit = f; counted = omega arith; early = l; state = rest-filled t }
-
-    go : (k : Kind) → Dec (v .Na ≡ 0) → Valid (done v r (prepare k L d))
+    go : (k : Kind) → Dec (v .Na ≡ 0) → Valid (done v r (prepare k to))
     go announced (yes i) =
-        tuned-valid (keeps v r .prepare-rest announced L d) (keeps v r .announce-now L d i) h f
-        (rest-filled t) none-coming
+        tuned-valid (keeps v r .prepare-rest announced to) (keeps v r .announce-now to i) h f
+        (rest-filled to) none-coming
     go announced (no i) =
-        tuned-valid (keeps v r .prepare-rest announced L d) (keeps v r .announce-waits L d (omega arith)) h
+        tuned-valid (keeps v r .prepare-rest announced to) (keeps v r .announce-waits to (omega arith)) h
         (h .fit) (h .state) (one-coming (begins announced (λ e. omega arith)))
     go asked i =
-        tuned-valid (keeps v r .prepare-rest asked L d) (keeps v r .ask-waits L d) h (h .fit) (h .state)
+        tuned-valid (keeps v r .prepare-rest asked to) (keeps v r .ask-waits to) h (h .fit) (h .state)
         (one-coming (begins asked (λ e. absurd (announced-asked e refl))))
-done-valid v r (instant L d) e s h =
-    let t = to v L d in
-    let f = accepted-fit L d h (refuses .instants v L d) e in
-    tuned-valid (keeps v r .instant-rest L d) (keeps v r .instant-now L d) h f
-    (run-filled t _ f (rest-filled t) (window-within r L (v .Na) s)) none-coming
+done-valid v r (instant to) e s h =
+    let f = accepted-fit to (refuses .instants v to) e in
+    tuned-valid (keeps v r .instant-rest to) (keeps v r .instant-now to) h f
+    (run-filled to _ f (rest-filled to) (window-within r (to .L) (v .Na) s)) none-coming
 done-valid v r commit e s h =
     let k = refuses .commits v .accepted .0 e in
     let c = h .waiting (k .w) (k .held) in

@@ -1,15 +1,15 @@
 -- A change waits if and only if an accepted announced one has not taken effect yet, or an accepted ask was
 -- neither committed nor withdrawn; and it is that one. Assumes nothing.
-use mathlib.Core.Path.{_≡_, refl, sym, ap, subst, _∙_}
+use mathlib.Core.Path.{_≡_, refl, sym, ap, ap₂, subst, _∙_}
 use mathlib.Core.List.{List, [], _∷_, _++_, append-nil, append-assoc}
 use mathlib.Core.Option.{some}
-use Prim.Native.Nat.{ℕ, _+_, _<_}
+use Prim.Native.Nat.{ℕ}
 use native.Mathlib.Omega.{arith}
 use native.Mathlib.Decide.{ℕ-discrete}
 use lib.IntN.{ℤ}
 use Rattle.rule.specs.Voice.{Tuning, Kind, announced, asked, Waiting}
 use Rattle.rule.specs.Calls.{Call, block, loss, pluck, announce, ask, prepare, instant, commit, withdraw}
-use Rattle.rule.specs.Calls.{Opening, number, done, inputs, to, opened}
+use Rattle.rule.specs.Calls.{Opening, number, done, inputs, opened}
 use Rattle.rule.specs.History.{History, steps, ago, step, told, call, from, fresh, after}
 use Rattle.rule.specs.Demands.{Awaited, Ends, Kept, Pending, announcement, request, Waits}
 use Rattle.rule.proofs.Refusals.{refuses}
@@ -25,8 +25,7 @@ use Rattle.rule.proofs.Stands.{holds-announce, holds-from}
 -- ---- what waits after a call: what the call prepared, or what waited before and the call did not end
 module _ (h : History) (c : Call) where
   data Comes (u : History) (w : Waiting) : Type 0 where
-    anew : {L d : ℕ} → c ≡ prepare (w .kind) L d → number (h .voice) c ≡ 0 → to (h .voice) L d ≡ w .tuning
-        → u .began ≡ steps h → Comes u w
+    anew : c ≡ prepare (w .kind) (w .tuning) → number (h .voice) c ≡ 0 → u .began ≡ steps h → Comes u w
     again : (x : Waiting) → h .voice .waiting ≡ some x → x .kind ≡ w .kind → x .tuning ≡ w .tuning
         → u .began ≡ h .began → (Ends c → number (h .voice) c ≡ 0 → ⊥) → Comes u w
 
@@ -38,7 +37,7 @@ module _ (h : History) (c : Call) where
     where
       on : (z : Waiting) → z .kind ≡ w .kind → z .tuning ≡ w .tuning → step u x .began ≡ u .began
           → Comes u z → Comes (step u x) w
-      on z κ τ b (anew {L} {d} e a t s) = anew (e ∙ ap (λ (k : Kind). prepare k L d) κ) a (t ∙ τ) (b ∙ s)
+      on z κ τ b (anew e a s) = anew (e ∙ ap₂ prepare κ τ) a (b ∙ s)
       on z κ τ b (again y q k t s n) = again y q (k ∙ κ) (t ∙ τ) (b ∙ s) n
 
       go : Goes (u .voice) (ago u) (step u x .voice) → step u x .began ≡ u .began → Comes (step u x) w
@@ -53,10 +52,10 @@ unfolding done
 come-told h (block xs n) z w p = again w p refl refl refl (λ k e. absurd k)
 come-told h (loss G) z w p = again w p refl refl refl (λ k e. absurd k)
 come-told h (pluck a n y) z w p = again w p refl refl refl (λ k e. absurd k)
-come-told h (prepare k L d) z w p =
-    let i = prepared-waits (h .voice) (ago h) k L d p in
-    anew (ap (λ (y : Waiting). prepare (y .kind) L d) i) z (ap (λ (y : Waiting). y .tuning) i) refl
-come-told h (instant L d) z w p = absurd (none-some p)
+come-told h (prepare k to) z w p =
+    let i = prepared-waits (h .voice) (ago h) k to p in
+    anew (ap (λ (y : Waiting). prepare (y .kind) (y .tuning)) i) z refl
+come-told h (instant to) z w p = absurd (none-some p)
 come-told h commit z w p =
     let k = refuses .commits (h .voice) .accepted .0 z in
     absurd (none-some (sym (keeps (h .voice) (ago h) .commit-now (k .w) (k .held) .waiting) ∙ p))
@@ -81,13 +80,10 @@ module _ (o : Opening) where
   record Origin (cs : List Call) (k : Kind) (t : Tuning) : Type 0 where
     pub pre : List Call
     pub post : List Call
-    pub L : ℕ
-    pub d : ℕ
-    pub split : cs ≡ pre ++ prepare k L d ∷ post
-    pub accepted : number (after o pre .voice) (prepare k L d) ≡ 0
-    pub tuning : to (after o pre .voice) L d ≡ t
+    pub split : cs ≡ pre ++ prepare k t ∷ post
+    pub accepted : number (after o pre .voice) (prepare k t) ≡ 0
     pub began : after o cs .began ≡ steps (after o pre)
-    pub kept : Kept (call (after o pre) (prepare k L d)) post
+    pub kept : Kept (call (after o pre) (prepare k t)) post
 
   abbrev Owned : List Call → Type 0
   Owned cs = (w : Waiting) → after o cs .voice .waiting ≡ some w → Origin cs (w .kind) (w .tuning)
@@ -99,14 +95,11 @@ module _ (o : Opening) where
       next = from-append cs (c ∷ []) (fresh o)
 
       go : Comes (after o cs) c (call (after o cs) c) w → Origin (cs ++ (c ∷ [])) (w .kind) (w .tuning)
-      go (anew {L} {d} e a t b) = record {
+      go (anew e a b) = record {
         pre = cs;
         post = [];
-        L = L;
-        d = d;
         split = ap (λ (x : Call). cs ++ (x ∷ [])) e;
         accepted = rw e at a;
-        tuning = t;
         began = ap (λ (h : History). h .began) next ∙ b;
         kept = tt;
       }
@@ -115,17 +108,14 @@ module _ (o : Opening) where
           record {
             pre = i .pre;
             post = i .post ++ (c ∷ []);
-            L = i .L;
-            d = i .d;
             split =
                 ap (λ (l : List Call). l ++ (c ∷ [])) (i .split)
-                ∙ append-assoc (i .pre) (prepare (w .kind) (i .L) (i .d) ∷ i .post) (c ∷ []);
+                ∙ append-assoc (i .pre) (prepare (w .kind) (w .tuning) ∷ i .post) (c ∷ []);
             accepted = i .accepted;
-            tuning = i .tuning;
             began = ap (λ (h : History). h .began) next ∙ b ∙ i .began;
             kept =
-                kept-snoc (i .post) (call (after o (i .pre)) (prepare (w .kind) (i .L) (i .d))) c (i .kept)
-                (rw (after-split o (i .pre) (i .post) (prepare (w .kind) (i .L) (i .d)) (i .split)) at f);
+                kept-snoc (i .post) (call (after o (i .pre)) (prepare (w .kind) (w .tuning))) c (i .kept)
+                (rw (after-split o (i .pre) (i .post) (prepare (w .kind) (w .tuning)) (i .split)) at f);
           }
 
   own-all : (cs ds : List Call) → Owned ds → Owned (ds ++ cs)
@@ -139,34 +129,31 @@ module _ (o : Opening) where
 -- ---- for every opening and list
 pending : (o : Opening) (cs : List Call) (k : Kind) (t : Tuning) (w : Waiting)
     → after o cs .voice .waiting ≡ some w → w .kind ≡ k → Origin o cs k t → Pending o cs k t
-pending o cs asked t w p κ i =
-    subst (Pending o cs asked) (i .tuning) (request (i .pre) (i .post) (i .split) (i .accepted) (i .kept))
+pending o cs asked t w p κ i = request (i .pre) (i .post) (i .split) (i .accepted) (i .kept)
 pending o cs announced t w p κ i =
     let g = after-sound o cs in
     let r = g .waiting w p in
     let e = g .valid .waiting w p .early κ in
     let n = advance o cs ∙ sym (advance o (i .pre)) in
-    let ahead : steps (after o cs) < steps (after o (i .pre)) + after o (i .pre) .voice .Na
-    = omega (arith, r .since, r .taken, e, i .began, n) in
-    subst (Pending o cs announced) (i .tuning) (announcement (i .pre) (i .post) (i .split) (i .accepted) ahead)
+    announcement (i .pre) (i .post) (i .split) (i .accepted)
+    (omega (arith, r .since, r .taken, e, i .began, n))
 
 waiting : (o : Opening) (cs : List Call) {k : Kind} {t : Tuning} → Pending o cs k t
     → Awaited (after o cs .voice) k t
-waiting o cs (request pre post {L} {d} s z k) =
+waiting o cs (request pre post {to} s z k) =
     let h = after o pre in
-    let t = to (h .voice) L d in
-    let i : Stands t (steps h) (after o cs)
-    = rw (after-split o pre post (ask L d) s)
-    (stands-kept t (steps h) post (call h (ask L d)) k (stands-ask h L d z)) in
+    let i : Stands to (steps h) (after o cs)
+    = rw (after-split o pre post (ask to) s)
+    (stands-kept to (steps h) post (call h (ask to)) k (stands-ask h to z)) in
     record { w = i .w; held = i .held; kind = i .kind; tuning = i .tuning }
-waiting o cs (announcement pre post {L} {d} s z l) =
+waiting o cs (announcement pre post {to} s z l) =
     let h = after o pre in
-    go (rw (after-split o pre post (announce L d) s)
-    (holds-from (to (h .voice) L d) (steps h) (h .voice .Na) post (call h (announce L d))
-    (call-sound h (announce L d) (after-sound o pre)) (holds-announce h L d z)))
+    go (rw (after-split o pre post (announce to) s)
+    (holds-from to (steps h) (h .voice .Na) post (call h (announce to))
+    (call-sound h (announce to) (after-sound o pre)) (holds-announce h to z)))
   where
-    go : Holds (to (after o pre .voice) L d) (steps (after o pre)) (after o pre .voice .Na) (after o cs)
-        → Awaited (after o cs .voice) announced (to (after o pre .voice) L d)
+    go : Holds to (steps (after o pre)) (after o pre .voice .Na) (after o cs)
+        → Awaited (after o cs .voice) announced to
     go (gone e) = absurd (omega arith)
     go (still w p κ τ b n) = record { w = w; held = p; kind = κ; tuning = τ }
 

@@ -4,20 +4,21 @@ use mathlib.Core.Path.{_≡_}
 use mathlib.Core.Logic.{_↔_}
 use mathlib.Core.List.{List, [], _∷_, _++_}
 use Prim.Native.Nat.{ℕ, _-_, _/_, _≤_, _<_}
+use Rattle.rule.specs.Voice.{Tuning}
 use Rattle.rule.specs.Calls.{Call, block, loss, pluck, prepare, ask, instant, commit, withdraw, Opening}
-use Rattle.rule.specs.Calls.{number, to}
+use Rattle.rule.specs.Calls.{number}
 use Rattle.rule.specs.History.{History, steps, call, after}
 use Rattle.rule.specs.State.{fresh, from, puts}
 use Rattle.rule.specs.Click.{figure, Change}
 use Rattle.rule.specs.Demands.{Kept}
 
 -- ---- the calls pre, an ask, and the calls mid, none of which ends it
-module _ (o : Opening) (pre mid : List Call) (L d : ℕ) where
+module _ (o : Opening) (pre mid : List Call) (to : Tuning) where
   abbrev asked : History
   asked = after o pre
 
   abbrev now : History
-  now = after o (pre ++ ask L d ∷ mid)
+  now = after o (pre ++ ask to ∷ mid)
 
   -- "the number of samples .. put out between asking and committing"
   abbrev pub between : ℕ
@@ -30,10 +31,10 @@ module _ (o : Opening) (pre mid : List Call) (L d : ℕ) where
     pub withdrawable : number (now .voice) withdraw ≡ 0
     -- the change that an accepted commit is: to what was asked for, by the samples put out between
     pub change : number (now .voice) commit ≡ 0
-        → Change now commit (to (asked .voice) L d) between (steps now)
+        → Change now commit to between (steps now)
 
   abbrev pub Pedals : Type 0
-  Pedals = number (asked .voice) (ask L d) ≡ 0 → Kept (call asked (ask L d)) mid → Pedal
+  Pedals = number (asked .voice) (ask to) ≡ 0 → Kept (call asked (ask to)) mid → Pedal
 
 -- "so a late pedal only tightens it"
 abbrev pub Tightens : Type 0
@@ -44,8 +45,8 @@ abbrev pub Plain : Call → Type 0
 Plain (block xs n) = Unit {0}
 Plain (loss G) = Unit {0}
 Plain (pluck a n z) = Unit {0}
-Plain (prepare k L d) = ⊥
-Plain (instant L d) = ⊥
+Plain (prepare k to) = ⊥
+Plain (instant to) = ⊥
 Plain commit = ⊥
 Plain withdraw = Unit {0}
 
@@ -55,13 +56,13 @@ AllPlain (c ∷ cs) = Plain c × AllPlain cs
 
 -- an accepted ask and its withdrawal are taken out of a list: all outputs are equal, and so is the voice, line
 -- and all. That the withdrawal is accepted need not be said: none before it is, or it was withdrawn already
-pub record Withdrawn (o : Opening) (pre mid post : List Call) (L d : ℕ) : Type 0 where
-  pub outputs : puts (fresh o) (pre ++ ask L d ∷ (mid ++ withdraw ∷ post))
+pub record Withdrawn (o : Opening) (pre mid post : List Call) (to : Tuning) : Type 0 where
+  pub outputs : puts (fresh o) (pre ++ ask to ∷ (mid ++ withdraw ∷ post))
       ≡ puts (fresh o) (pre ++ (mid ++ post))
-  pub state : from (fresh o) (pre ++ ask L d ∷ (mid ++ withdraw ∷ post))
+  pub state : from (fresh o) (pre ++ ask to ∷ (mid ++ withdraw ∷ post))
       ≡ from (fresh o) (pre ++ (mid ++ post))
 
 abbrev pub Withdraws : Opening → Type 0
 Withdraws o =
-    (pre mid post : List Call) (L d : ℕ) → number (from (fresh o) pre .voice) (ask L d) ≡ 0 → AllPlain mid
-    → Withdrawn o pre mid post L d
+    (pre mid post : List Call) (to : Tuning) → number (from (fresh o) pre .voice) (ask to) ≡ 0 → AllPlain mid
+    → Withdrawn o pre mid post to

@@ -20,16 +20,17 @@ pub data Call : Type 0 where
   loss : ℕ → Call
   -- amplitude, count, seed
   pluck : ℕ → ℕ → ℕ → Call
-  -- a change to L' and d', whose eliminator runs first and waits: announced, or asked for (L3)
-  prepare : Kind → ℕ → ℕ → Call
-  instant : ℕ → ℕ → Call
+  -- a change to N', L' and d' ("every change names" the order: L6), whose eliminator runs first and waits:
+  -- announced, or asked for (L3)
+  prepare : Kind → Tuning → Call
+  instant : Tuning → Call
   commit : Call
   withdraw : Call
 
-abbrev pub announce : ℕ → ℕ → Call
+abbrev pub announce : Tuning → Call
 announce = prepare announced
 
-abbrev pub ask : ℕ → ℕ → Call
+abbrev pub ask : Tuning → Call
 ask = prepare asked
 
 pub record Opening : Type 0 where
@@ -44,9 +45,10 @@ pub record Opening : Type 0 where
 abbrev pub openLimits : Opening → List Limit
 openLimits o = order (o .N) ∷ long (o .L) ∷ delay (o .N) (o .d) ∷ lossy (o .G) ∷ early (o .Na) ∷ []
 
--- "Announced and instant change: 2, 3, then 6"; L3: "Asking tests what a change tests"
-abbrev pub changeLimits : Voice → ℕ → ℕ → List Limit
-changeLimits v L d = long L ∷ delay (v .tuning .N) d ∷ idle (v .waiting) ∷ []
+-- "Announced and instant change: 2, 3, then 6"; L3: "Asking tests what a change tests"; L6: "A change now tests
+-- 1 before 2"
+abbrev pub changeLimits : Voice → Tuning → List Limit
+changeLimits v to = order (to .N) ∷ long (to .L) ∷ delay (to .N) (to .d) ∷ idle (v .waiting) ∷ []
 
 -- "Loss: 4"; L3: "20 commit before Na samples were taken; 21 commit or withdraw with nothing asked; 21 is
 -- tested first"
@@ -54,8 +56,8 @@ abbrev pub limits : Voice → Call → List Limit
 limits v (block xs n) = matched xs n ∷ loud xs ∷ []
 limits v (loss G) = lossy G ∷ []
 limits v (pluck a n z) = strong a ∷ lasting n ∷ []
-limits v (prepare k L d) = changeLimits v L d
-limits v (instant L d) = changeLimits v L d
+limits v (prepare k to) = changeLimits v to
+limits v (instant to) = changeLimits v to
 limits v commit = asking (v .waiting) ∷ ready (v .Na) (v .waiting) ∷ []
 limits v withdraw = asking (v .waiting) ∷ []
 
@@ -76,9 +78,6 @@ opened o =
     (resting (record { N = 1; L = 1; d = 4096 }) 0 0)
 
 -- ---- what an accepted call does, but for the steps of a block
-abbrev pub to : Voice → ℕ → ℕ → Tuning
-to v L d = record { N = v .tuning .N; L = L; d = d }
-
 -- s(n − L − a), .. , s(n − L − 1): what a filter of length L takes at the steps from n − a to n − 1
 abbrev pub window : (ℕ → ℤ) → ℕ → ℕ → List ℤ
 window r L zero = []
@@ -122,8 +121,8 @@ unfoldable pub done : Voice → (ℕ → ℤ) → Call → Voice
 done v r (block xs n) = v
 done v r (loss G) = played v G (v .pluck)
 done v r (pluck a n z) = played v (v .G) (record { amplitude = a; left = n; noise = z })
-done v r (prepare k L d) = prepared v k (to v L d)
-done v r (instant L d) = retuned v r (to v L d)
+done v r (prepare k to) = prepared v k to
+done v r (instant to) = retuned v r to
 done v r commit = committed v (v .waiting)
 done v r withdraw = withdrawn v
 
@@ -132,8 +131,8 @@ abbrev pub inputs : Call → List ℤ
 inputs (block xs n) = xs
 inputs (loss G) = []
 inputs (pluck a n z) = []
-inputs (prepare k L d) = []
-inputs (instant L d) = []
+inputs (prepare k to) = []
+inputs (instant to) = []
 inputs commit = []
 inputs withdraw = []
 
@@ -142,7 +141,7 @@ unfoldable pub count : Voice → Call → ℕ
 count v (block xs n) = 0
 count v (loss G) = 0
 count v (pluck a n z) = 0
-count v (prepare k L d) = 0
-count v (instant L d) = cond (eqb (number v (instant L d)) 0) (v .Na) 0
+count v (prepare k to) = 0
+count v (instant to) = cond (eqb (number v (instant to)) 0) (v .Na) 0
 count v commit = 0
 count v withdraw = 0

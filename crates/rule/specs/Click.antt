@@ -9,7 +9,7 @@ use lib.Dec.{leb}
 use lib.IntN.{ℤ, pos, natAbs, _-ℤ_}
 use lib.ListN.{getD}
 use Rattle.rule.specs.Voice.{Tuning, Waiting}
-use Rattle.rule.specs.Calls.{Call, announce, instant, commit, Opening, number, to}
+use Rattle.rule.specs.Calls.{Call, announce, instant, commit, Opening, number}
 use Rattle.rule.specs.History.{History, steps, read, call, after, new}
 use Rattle.rule.specs.State.{fresh, puts}
 
@@ -21,10 +21,10 @@ figure k = cond (leb k 23) (3 * 2 ^ (23 - k)) 2
 -- and c if it is instant": the call c at h is a change to the tuning t, whose second copy takes a samples
 -- and so "begins at step e − Na"
 pub data Change (h : History) : Call → Tuning → ℕ → ℕ → Type 0 where
-  announcing : {L d : ℕ} → number (h .voice) (announce L d) ≡ 0
-      → Change h (announce L d) (to (h .voice) L d) (h .voice .Na) (steps h + h .voice .Na)
-  instantly : {L d : ℕ} → number (h .voice) (instant L d) ≡ 0
-      → Change h (instant L d) (to (h .voice) L d) (h .voice .Na) (steps h)
+  announcing : {to : Tuning} → number (h .voice) (announce to) ≡ 0
+      → Change h (announce to) to (h .voice .Na) (steps h + h .voice .Na)
+  instantly : {to : Tuning} → number (h .voice) (instant to) ≡ 0
+      → Change h (instant to) to (h .voice .Na) (steps h)
   -- L3: "the number of samples the eliminator actually took, those put out between asking and committing, in
   -- place of Na"
   committing : {w : Waiting} → number (h .voice) commit ≡ 0 → h .voice .waiting ≡ some w

@@ -12,7 +12,7 @@ use Rattle.integer.specs.Cut.{cut}
 use Rattle.allpass.specs.Allpass.{next, out}
 use Rattle.rule.specs.Voice.{Tuning, Kind, announced, asked, Waiting, Voice, A, noise, spent}
 use Rattle.rule.specs.Calls.{Call, block, loss, pluck, announce, ask, prepare, instant, commit, withdraw}
-use Rattle.rule.specs.Calls.{Opening, number, to, opened}
+use Rattle.rule.specs.Calls.{Opening, number, opened}
 use Rattle.rule.specs.History.{History, read, steps, ago, step, call, from, fresh, after, new}
 use Rattle.rule.specs.State as S
 use Rattle.rule.specs.State.{silence, puts}
@@ -32,8 +32,8 @@ abbrev pub Ends : Call → Type 0
 Ends (block xs n) = ⊥
 Ends (loss G) = ⊥
 Ends (pluck a n z) = ⊥
-Ends (prepare k L d) = ⊥
-Ends (instant L d) = ⊥
+Ends (prepare k to) = ⊥
+Ends (instant to) = ⊥
 Ends commit = Unit {0}
 Ends withdraw = Unit {0}
 
@@ -43,14 +43,14 @@ Kept h [] = Unit {0}
 Kept h (c ∷ cs) = (Ends c → number (h .voice) c ≡ 0 → ⊥) × Kept (call h c) cs
 
 pub data Pending (o : Opening) (cs : List Call) : Kind → Tuning → Type 0 where
-  announcement : (pre post : List Call) {L d : ℕ} → cs ≡ pre ++ announce L d ∷ post
-      → number (after o pre .voice) (announce L d) ≡ 0
+  announcement : (pre post : List Call) {to : Tuning} → cs ≡ pre ++ announce to ∷ post
+      → number (after o pre .voice) (announce to) ≡ 0
       → steps (after o cs) < steps (after o pre) + after o pre .voice .Na
-      → Pending o cs announced (to (after o pre .voice) L d)
-  request : (pre post : List Call) {L d : ℕ} → cs ≡ pre ++ ask L d ∷ post
-      → number (after o pre .voice) (ask L d) ≡ 0
-      → Kept (call (after o pre) (ask L d)) post
-      → Pending o cs asked (to (after o pre .voice) L d)
+      → Pending o cs announced to
+  request : (pre post : List Call) {to : Tuning} → cs ≡ pre ++ ask to ∷ post
+      → number (after o pre .voice) (ask to) ≡ 0
+      → Kept (call (after o pre) (ask to)) post
+      → Pending o cs asked to
 
 abbrev pub Waits : Opening → List Call → Type 0
 Waits o cs = (k : Kind) (t : Tuning) → Awaited (after o cs .voice) k t ↔ Pending o cs k t

@@ -46,8 +46,8 @@ abbrev pub begun : History → Call → ℕ
 begun h (block xs n) = h .began
 begun h (loss G) = h .began
 begun h (pluck a n z) = h .began
-begun h (prepare k L d) = steps h
-begun h (instant L d) = h .began
+begun h (prepare k to) = steps h
+begun h (instant to) = h .began
 begun h commit = h .began
 begun h withdraw = h .began
 

@@ -10,7 +10,7 @@ use Rattle.allpass.specs.Allpass.{run}
 use Rattle.rule.specs.Voice.{Tuning, Kind, announced, asked, Waiting, Voice, A, rest}
 use Rattle.rule.specs.History.{History, steps, through, call}
 use Rattle.rule.specs.Calls.{Call, block, loss, pluck, announce, ask, prepare, instant, commit, withdraw}
-use Rattle.rule.specs.Calls.{number, done, count, to, window}
+use Rattle.rule.specs.Calls.{number, done, count, window}
 
 -- in u the tuning t is in force, with the filter state q, and w waits
 pub record InForce (u : Voice) (t : Tuning) (q : List ℤ) (w : Option Waiting) : Type 0 where
@@ -52,16 +52,16 @@ pub record Keeps (v : Voice) (r : ℕ → ℤ) : Type 0 where
         pluck = record { amplitude = a; left = n; noise = z };
       }
   -- an announced change leaves the filter in force, and waits at rest; with Na 0 it takes effect, from rest
-  pub announce-waits : (L d : ℕ) → 0 < v .Na
-      → InForce (done v r (announce L d)) (v .tuning) (v .state)
-      (some (record { kind = announced; tuning = to v L d; taken = 0; state = rest (to v L d) }))
-  pub announce-now : (L d : ℕ) → v .Na ≡ 0
-      → InForce (done v r (announce L d)) (to v L d) (rest (to v L d)) none
+  pub announce-waits : (to : Tuning) → 0 < v .Na
+      → InForce (done v r (announce to)) (v .tuning) (v .state)
+      (some (record { kind = announced; tuning = to; taken = 0; state = rest to }))
+  pub announce-now : (to : Tuning) → v .Na ≡ 0
+      → InForce (done v r (announce to)) to (rest to) none
   -- L3: one that is asked for "waits even with Na 0"
-  pub ask-waits : (L d : ℕ)
-      → InForce (done v r (ask L d)) (v .tuning) (v .state)
-      (some (record { kind = asked; tuning = to v L d; taken = 0; state = rest (to v L d) }))
-  pub prepare-rest : (k : Kind) (L d : ℕ) → Retuned v (done v r (prepare k L d))
+  pub ask-waits : (to : Tuning)
+      → InForce (done v r (ask to)) (v .tuning) (v .state)
+      (some (record { kind = asked; tuning = to; taken = 0; state = rest to }))
+  pub prepare-rest : (k : Kind) (to : Tuning) → Retuned v (done v r (prepare k to))
   -- L3: "committing switches before the next sample; withdrawing drops it"
   pub commit-now : (w : Waiting) → v .waiting ≡ some w
       → InForce (done v r commit) (w .tuning) (w .state) none
@@ -69,13 +69,13 @@ pub record Keeps (v : Voice) (r : ℕ → ℤ) : Type 0 where
   pub withdraw-drops : InForce (done v r withdraw) (v .tuning) (v .state) none
   pub withdraw-rest : Retuned v (done v r withdraw)
   -- an instant change is in force, from the run of a resting eliminator over the last Na reads
-  pub instant-now : (L d : ℕ)
-      → InForce (done v r (instant L d)) (to v L d)
-      (run (A (to v L d)) (rest (to v L d)) (window r L (v .Na))) none
-  pub instant-rest : (L d : ℕ) → Retuned v (done v r (instant L d))
+  pub instant-now : (to : Tuning)
+      → InForce (done v r (instant to)) to
+      (run (A to) (rest to) (window r (to .L) (v .Na))) none
+  pub instant-rest : (to : Tuning) → Retuned v (done v r (instant to))
   -- "it also returns the number of samples run, which is Na"
-  pub counted : (L d : ℕ) → number v (instant L d) ≡ 0
-      → (count v (instant L d) ≡ length (window r L (v .Na))) × (count v (instant L d) ≡ v .Na)
+  pub counted : (to : Tuning) → number v (instant to) ≡ 0
+      → (count v (instant to) ≡ length (window r (to .L) (v .Na))) × (count v (instant to) ≡ v .Na)
 
 -- ---- "an accepted block of b samples is b steps, every other call and every refused one is none"
 pub record NoStep (h u : History) : Type 0 where
@@ -90,8 +90,8 @@ pub record Counts (h : History) : Type 0 where
       → steps (call h (block xs n)) ≡ steps h + length xs
   pub loss-none : (G : ℕ) → NoStep h (call h (loss G))
   pub pluck-none : (a n z : ℕ) → NoStep h (call h (pluck a n z))
-  pub prepare-none : (k : Kind) (L d : ℕ) → NoStep h (call h (prepare k L d))
-  pub instant-none : (L d : ℕ) → NoStep h (call h (instant L d))
+  pub prepare-none : (k : Kind) (to : Tuning) → NoStep h (call h (prepare k to))
+  pub instant-none : (to : Tuning) → NoStep h (call h (instant to))
   pub commit-none : NoStep h (call h commit)
   pub withdraw-none : NoStep h (call h withdraw)
   pub refused-none : (c : Call) → (number (h .voice) c ≡ 0 → ⊥) → call h c ≡ h

@@ -11,7 +11,7 @@ use Rattle.integer.specs.Rounding.{M}
 use Rattle.refusal.specs.Limits.{Between, refusal}
 use Rattle.refusal.specs.Orders.{orders, lowest, highest}
 use Rattle.allpass.specs.Bounds.{Within}
-use Rattle.rule.specs.Voice.{Kind, asked, Waiting, Voice}
+use Rattle.rule.specs.Voice.{Kind, asked, Tuning, Waiting, Voice}
 use Rattle.rule.specs.Calls.{Call, block, loss, pluck, prepare, instant, commit, withdraw, Opening}
 use Rattle.rule.specs.Calls.{openLimits, number, opened, count}
 use Rattle.rule.specs.State.{State, call, put}
@@ -37,12 +37,13 @@ pub record OpenReturns (N L d G Na n : ℕ) : Type 0 where
   pub accepted : (n ≡ 0) ↔ (Ordered N × (Long L × (Delayed N d × (Between 0 G 65535 × Between 0 Na 64))))
 
 -- "Announced and instant change: 2, 3, then 6 a change waits"; L3: "Asking tests what a change tests"; "A change
--- that was asked for counts as waiting"
-pub record ChangeReturns (v : Voice) (L d n : ℕ) : Type 0 where
-  pub length : (n ≡ 2) ↔ (Long L → ⊥)
-  pub delay : (n ≡ 3) ↔ (Long L × (Delayed (v .tuning .N) d → ⊥))
-  pub waits : (n ≡ 6) ↔ (Long L × (Delayed (v .tuning .N) d × (v .waiting ≡ none → ⊥)))
-  pub accepted : (n ≡ 0) ↔ (Long L × (Delayed (v .tuning .N) d × (v .waiting ≡ none)))
+-- that was asked for counts as waiting"; L6: "A change now tests 1 before 2", and 3 with the order that it names
+pub record ChangeReturns (v : Voice) (N L d n : ℕ) : Type 0 where
+  pub order : (n ≡ 1) ↔ (Ordered N → ⊥)
+  pub length : (n ≡ 2) ↔ (Ordered N × (Long L → ⊥))
+  pub delay : (n ≡ 3) ↔ (Ordered N × (Long L × (Delayed N d → ⊥)))
+  pub waits : (n ≡ 6) ↔ (Ordered N × (Long L × (Delayed N d × (v .waiting ≡ none → ⊥))))
+  pub accepted : (n ≡ 0) ↔ (Ordered N × (Long L × (Delayed N d × (v .waiting ≡ none))))
 
 -- L3: a change that was asked for waits in v; P is said of how many samples it has taken
 pub record Asked (v : Voice) (P : ℕ → Type 0) : Type 0 where
@@ -94,8 +95,9 @@ pub record Resting (N L d G Na : ℕ) (v : Voice) : Type 0 where
 
 pub record Refuses : Type 0 where
   pub opens : (o : Opening) → OpenReturns (o .N) (o .L) (o .d) (o .G) (o .Na) (refusal (openLimits o))
-  pub prepares : (v : Voice) (k : Kind) (L d : ℕ) → ChangeReturns v L d (number v (prepare k L d))
-  pub instants : (v : Voice) (L d : ℕ) → ChangeReturns v L d (number v (instant L d))
+  pub prepares : (v : Voice) (k : Kind) (to : Tuning)
+      → ChangeReturns v (to .N) (to .L) (to .d) (number v (prepare k to))
+  pub instants : (v : Voice) (to : Tuning) → ChangeReturns v (to .N) (to .L) (to .d) (number v (instant to))
   pub commits : (v : Voice) → CommitReturns v (number v commit)
   pub withdraws : (v : Voice) → WithdrawReturns v (number v withdraw)
   pub losses : (v : Voice) (G : ℕ) → LossReturns G (number v (loss G))
@@ -109,4 +111,4 @@ pub record Refuses : Type 0 where
   -- "The voice is unchanged", "Output and voice are unchanged"
   pub unchanged : (v : State) (c : Call) → (number (v .voice) c ≡ 0 → ⊥) → (call v c ≡ v) × (put v c ≡ [])
   -- "the instant change counts 0"
-  pub uncounted : (v : Voice) (L d : ℕ) → (number v (instant L d) ≡ 0 → ⊥) → count v (instant L d) ≡ 0
+  pub uncounted : (v : Voice) (to : Tuning) → (number v (instant to) ≡ 0 → ⊥) → count v (instant to) ≡ 0

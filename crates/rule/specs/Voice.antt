@@ -13,11 +13,14 @@ use Rattle.allpass.specs.Allpass as Filter
 use Rattle.allpass.specs.Allpass.{next, out}
 use Rattle.noise.specs.Noise as Noise
 
--- "N, a length L, d": what a change replaces
+-- "N, a length L, d": what a change replaces; L6: "The order becomes part of the tuning"
 pub record Tuning : Type 0 where
   pub N : ℕ
   pub L : ℕ
   pub d : ℕ
+
+abbrev pub tuning : ℕ → ℕ → ℕ → Tuning
+tuning N L d = record { N = N; L = L; d = d }
 
 -- L3: a change waits as an announced one, or as one that was asked for
 pub data Kind : Type 0 where

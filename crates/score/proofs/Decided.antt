@@ -20,7 +20,7 @@ use Rattle.record.proofs.Returns.{ill, found, stands}
 use Rattle.score.specs.declared.Played.{Played}
 use Rattle.score.specs.Played.{Runs}
 use Rattle.score.specs.Reached.{header, Opens, OrderIn, LengthIn, DelayIn, LossIn, AdvanceIn, Has}
-use Rattle.score.specs.Reached.{Lacks, size}
+use Rattle.score.specs.Reached.{Lacks, size, keeping}
 use Rattle.score.specs.Reached.{Readable, waited}
 use Rattle.score.specs.Reached.{SetsLoss, as-it-was, set, Given, present, absent, AsksChange, Delayed}
 use Rattle.score.specs.Reached.{MakesChange, no-change, changed, MakesPluck, no-pluck, plucked}
@@ -31,7 +31,7 @@ use Rattle.score.specs.Ends.{waits}
 use Rattle.score.specs.Ends.{amplitude, count}
 use Rattle.score.specs.Ends.{Ends, unopened, record-refused, lossless, unchanged, unplucked, success}
 use Rattle.score.specs.Ends.{Answered}
-use Rattle.score.proofs.Parts.{kind}
+use Rattle.score.proofs.Parts.{manner}
 use Rattle.score.proofs.Standing.{Standing, standing}
 use Rattle.score.proofs.Ending.{Returns, ending}
 
@@ -111,7 +111,7 @@ module _ (t : List ℕ) where
       there h =
           let L = given 1 (v .voice .tuning .L) in
           let d = given 2 (v .voice .tuning .d) in
-          let c = kind t (L .0) (d .0) in
+          let c = manner t (keeping v (L .0) (d .0)) in
           let a : AsksChange t v (L .0) (d .0) = record { some = h; long = L .1; delay = d .1 } in
           let N = v .voice .tuning .N in
           try (between 1 (L .0) 2048) (λ f. (2, long a f)) λ l.

@@ -33,7 +33,7 @@ use Rattle.score.proofs.Parts.{Yields, r, first-then, first-ends, sets-
 use Rattle.score.proofs.Parts.{makes-change}
 use Rattle.score.proofs.Parts.{change-refused, pluck-refused}
 use Rattle.score.proofs.Standing.{Standing, standing, good, wait-is, kept-whole, kept-formed, room}
-use Rattle.score.proofs.Standing.{some-left, passes}
+use Rattle.score.proofs.Standing.{some-left, passes, waited-whole, standing-whole}
 
 -- the run of s over out returns n, k and w
 pub record Returns (s : List ℕ) (out : List ℤ) (n k w : ℕ) : Type 0 where
@@ -154,14 +154,15 @@ module _ {s : List ℕ} {out : List ℤ} {k : ℕ} {v : State} {left at : ℕ} (
       pub by-change : {n : ℕ} → ChangeRefused (drop at s) a n
           → Returns s out n k (length out - (left - field (drop at s) 0))
       by-change e =
-          let y = change-refused t e in
+          let y = change-refused t (waited-whole t (standing-whole g) l) e in
           after-wait (lossy (first-ends (changeCalls (r t)) (pluckCalls (r t)) (y .1) (y .2))) (y .2)
 
       pub by-pluck : {b : State} {n : ℕ} → MakesChange (drop at s) a b → PluckRefused (drop at s) n
           → Returns s out n k (length out - (left - field (drop at s) 0))
       by-pluck {b} c e =
           let y = pluck-refused t b e in
-          after-wait (lossy (first-then (changeCalls (r t)) (pluckCalls (r t)) (makes-change t c) (y .1)))
+          after-wait (lossy (first-then (changeCalls (r t)) (pluckCalls (r t)) (makes-change t (waited-whole t (standing-whole g) l) c)
+          (y .1)))
           (y .2)
 
 -- ---- every end

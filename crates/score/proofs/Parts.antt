@@ -7,8 +7,12 @@ use Prim.Native.Nat.{ℕ, _+_}
 use native.Mathlib.Omega.{arith}
 use borrow.Author.Tests.{eq-eqb, ne-eqb}
 use lib.Dec.{eqb}
+use Rattle.refusal.specs.Limits.{Between}
+use Rattle.refusal.specs.Orders.{orders}
 use Rattle.rule.specs.Calls.{Call, loss, pluck, announce, instant, number}
 use Rattle.rule.specs.Voice as Waiting
+use Rattle.rule.specs.Valid.{Whole}
+use Rattle.rule.specs.Voice.{Tuning}
 use Rattle.rule.specs.State.{State, call, from}
 use Rattle.rule.specs.Refusals.{ChangeReturns}
 use Rattle.rule.proofs.Refusals.{refuses}
@@ -19,8 +23,8 @@ use Rattle.follow.specs.Follow.{pluckCalls, result, then}
 use Rattle.rule.proofs.Puts.{from-append}
 use Rattle.follow.proofs.Sequence.{result-past, result-one, then-past, then-stops}
 use Rattle.score.specs.Reached.{Has, Lacks, SetsLoss, as-it-was, set, Given, present, absent}
-use Rattle.score.specs.Reached.{AsksChange, Kind, announced, instantly, MakesChange, no-change}
-use Rattle.score.specs.Reached.{changed}
+use Rattle.score.specs.Reached.{AsksChange, Manner, announced, instantly, keeping, MakesChange}
+use Rattle.score.specs.Reached.{no-change, changed}
 use Rattle.score.specs.Reached.{MakesPluck, no-pluck, plucked}
 use Rattle.score.specs.Ends.{LossRefused, loss-outside, ChangeRefused, long, delay, waits}
 use Rattle.score.specs.Ends.{PluckRefused, amplitude, count}
@@ -102,7 +106,7 @@ module _ (t : List ℕ) where
   either = bit (mapOf t) 1 + bit (mapOf t) 2
 
   module _ (v : State) {L d : ℕ} (a : AsksChange t v L d) where
-    change-is : {c : Call} → Kind t L d c → c ≡ change r v
+    change-is : {c : Call} → Manner t (keeping v L d) c → c ≡ change r v
     change-is (announced e i) =
         i ∙ rw (
           eq-eqb (bit (mapOf t) 7) 0 (down (mapOf t) 7 e),
@@ -116,42 +120,46 @@ module _ (t : List ℕ) where
           ← chosen 2 (v .voice .tuning .d) (a .delay),
         )
 
-    makes : {c : Call} {n : ℕ} {u : State} → Kind t L d c → number (v .voice) c ≡ n → u ≡ call v c
-        → Yields v (changeCalls r v) n u
+    makes : {c : Call} {n : ℕ} {u : State} → Manner t (keeping v L d) c → number (v .voice) c ≡ n
+        → u ≡ call v c → Yields v (changeCalls r v) n u
     makes {c} {n} {u} k e i =
         let z = change-is k in
         made v either (change r v) (λ o. a .some (λ z. omega arith) (λ z. omega arith))
         (ap (λ (x : Call). number (v .voice) x) (sym z) ∙ e) (i ∙ ap (λ (x : Call). call v x) z)
 
-  returns : (v : State) (L d : ℕ) {c : Call} → Kind t L d c
-      → ChangeReturns (v .voice) L d (number (v .voice) c)
-  returns v L d (announced e i) = rw i (refuses .prepares (v .voice) Waiting.announced L d)
-  returns v L d (instantly e i) = rw i (refuses .instants (v .voice) L d)
+  returns : (v : State) (to : Tuning) {c : Call} → Manner t to c
+      → ChangeReturns (v .voice) (to .N) (to .L) (to .d) (number (v .voice) c)
+  returns v to (announced e i) = rw i (refuses .prepares (v .voice) Waiting.announced to)
+  returns v to (instantly e i) = rw i (refuses .instants (v .voice) to)
 
-  pub makes-change : {v u : State} → MakesChange t v u → Yields v (changeCalls r v) 0 u
-  makes-change {v} (no-change e f i) =
+  -- the order in force is one that a change may name
+  ordered : {v : State} → Whole v → Between 1 (v .voice .tuning .N) orders
+  ordered w = let a = w .voice .fit .takes in record { least = a .least; most = a .most }
+
+  pub makes-change : {v u : State} → Whole v → MakesChange t v u → Yields v (changeCalls r v) 0 u
+  makes-change {v} g (no-change e f i) =
       left-out v either (change r v) (omega (arith, down (mapOf t) 1 e, down (mapOf t) 2 f)) i
-  makes-change {v} (changed {L} {d} a l k w o i) =
-      makes v a o (returns v L d o .accepted .1 (l, (k, w))) i
+  makes-change {v} g (changed {L} {d} a l k w o i) =
+      makes v a o (returns v (keeping v L d) o .accepted .1 (ordered g, (l, (k, w)))) i
 
-  pub kind : (L d : ℕ) → (c : Call) × Kind t L d c
-  kind L d = go (stands (mapOf t) 7)
+  pub manner : (to : Tuning) → (c : Call) × Manner t to c
+  manner to = go (stands (mapOf t) 7)
     where
-      go : Dec (Has t 7) → (c : Call) × Kind t L d c
-      go (no e) = (announce L d, announced e refl)
-      go (yes e) = (instant L d, instantly e refl)
+      go : Dec (Has t 7) → (c : Call) × Manner t to c
+      go (no e) = (announce to, announced e refl)
+      go (yes e) = (instant to, instantly e refl)
 
-  pub change-refused : {n : ℕ} {v : State} → ChangeRefused t v n
+  pub change-refused : {n : ℕ} {v : State} → Whole v → ChangeRefused t v n
       → (u : State) × Yields v (changeCalls r v) n u × (n ≡ 0 → ⊥)
-  change-refused {v = v} (long {L} {d} a f) =
-      let k = kind L d in
-      (call v (k .0), makes v a (k .1) (returns v L d (k .1) .length .1 f) refl, λ z. omega arith)
-  change-refused {v = v} (delay {L} {d} a l f) =
-      let k = kind L d in
-      (call v (k .0), makes v a (k .1) (returns v L d (k .1) .delay .1 (l, f)) refl, λ z. omega arith)
-  change-refused {v = v} (waits {L} {d} a l e f) =
-      let k = kind L d in
-      (call v (k .0), makes v a (k .1) (returns v L d (k .1) .waits .1 (l, (e, f))) refl, λ z. omega arith)
+  change-refused {v = v} g (long {L} {d} a f) =
+      let k = manner (keeping v L d) in
+      (call v (k .0), makes v a (k .1) (returns v (keeping v L d) (k .1) .length .1 (ordered g, f)) refl, λ z. omega arith)
+  change-refused {v = v} g (delay {L} {d} a l f) =
+      let k = manner (keeping v L d) in
+      (call v (k .0), makes v a (k .1) (returns v (keeping v L d) (k .1) .delay .1 (ordered g, (l, f))) refl, λ z. omega arith)
+  change-refused {v = v} g (waits {L} {d} a l e f) =
+      let k = manner (keeping v L d) in
+      (call v (k .0), makes v a (k .1) (returns v (keeping v L d) (k .1) .waits .1 (ordered g, (l, (e, f)))) refl, λ z. omega arith)
 
   -- a pluck
   module _ (v : State) {n : ℕ} (e : Has t 4) (g : Given t 5 100 n) where

@@ -12,6 +12,8 @@ use Rattle.refusal.specs.Limits.{refusal}
 use Rattle.refusal.specs.Returned.{Kept, none, more}
 use Rattle.rule.specs.Calls.{Call}
 use Rattle.rule.specs.State.{State, fresh, from, puts}
+use Rattle.rule.specs.Valid.{Whole}
+use Rattle.rule.proofs.States.{call-whole, fresh-whole, from-whole}
 use Rattle.record.specs.Record.{mapOf, field, fields, rest, recordNumber, whole, formed}
 use Rattle.record.specs.Returns.{IllFormed}
 use Rattle.record.proofs.Reading.{good-map, taken-fields, taken-rest}
@@ -20,8 +22,8 @@ use Rattle.follow.specs.Follow.{value, result, lossCalls, changeCalls, pluckCal
 use Rattle.follow.specs.Follow.{actCalls, recordCalls}
 use Rattle.follow.proofs.Waits.{wait-taken}
 use Rattle.score.specs.Run.{opening, playLimits}
-use Rattle.score.specs.Reached.{Opens, size, Readable, waited, SetsLoss, MakesChange, MakesPluck}
-use Rattle.score.specs.Reached.{Reached, first, later}
+use Rattle.score.specs.Reached.{Opens, size, Readable, waited, SetsLoss, as-it-was, set, MakesChange}
+use Rattle.score.specs.Reached.{MakesPluck, Reached, first, later}
 use Rattle.score.proofs.Playing.{Playing, begun, play-returned}
 use Rattle.score.proofs.Turns.{goes-on}
 use Rattle.score.proofs.Parts.{Yields, r, first-then, sets-loss, makes-change, makes-pluck}
@@ -36,6 +38,11 @@ module _ (t : List ℕ) where
   pub kept-formed : (IllFormed (mapOf t) → ⊥) → Kept (formed (mapOf t))
   kept-formed f = record { least = omega arith; most = le-of-eq (well (mapOf t) f) }
 
+  -- once its wait is over and its loss is set
+  pub waited-whole : {v u : State} → Whole v → SetsLoss t (waited t v) u → Whole u
+  waited-whole {v} g (as-it-was e i) = rw i (call-whole v _ g)
+  waited-whole {v} g (set e b i) = rw i (call-whole (waited t v) _ (call-whole v _ g))
+
   module _ {left : ℕ} (a : Readable t left) where
     pub good : 0 ≡ recordNumber t
     good = good-map t (kept-whole (a .whole) .least) (well (mapOf t) (a .formed))
@@ -49,13 +56,13 @@ module _ (t : List ℕ) where
         (more (record { least = omega arith; most = omega (arith, wait-is, a .fits) }) none)))
 
     -- what it does is what its calls do
-    module _ {v x y u : State} (l : SetsLoss t (waited t v) x) (c : MakesChange t x y)
+    module _ {v x y u : State} (g : Whole v) (l : SetsLoss t (waited t v) x) (c : MakesChange t x y)
         (p : MakesPluck t y u) where
       pub followed : Yields v (recordCalls (fields t) v) 0 u
       unfolding recordCalls actCalls
       followed =
           let rest-of =
-          first-then (changeCalls (r t)) (pluckCalls (r t)) (makes-change t c) (makes-pluck t p) in
+          first-then (changeCalls (r t)) (pluckCalls (r t)) (makes-change t (waited-whole g l) c) (makes-pluck t p) in
           let acts = first-then (lossCalls (r t)) (then (changeCalls (r t)) (pluckCalls (r t)))
           (sets-loss t l) rest-of in
           rw (← taken-fields t good)
@@ -107,6 +114,13 @@ module _ {s : List ℕ} {out : List ℤ} {k : ℕ} {v : State} {left at : ℕ} (
           playing = rw tail at next;
         }
 
+pub standing-whole : {s : List ℕ} {out : List ℤ} {k : ℕ} {v : State} {left at : ℕ} → Standing s out k v left at
+    → Whole v
+standing-whole {s} g =
+    let p = g .playing in
+    subst (λ (u : State). Whole u) (p .state)
+    (from-whole (p .calls) (fresh (opening s)) (fresh-whole (opening s)))
+
 pub standing : (s : List ℕ) (out : List ℤ) {k : ℕ} {v : State} {left at : ℕ}
     → Reached s (length out) k v left at → Standing s out k v left at
 standing s out (first o) =
@@ -121,4 +135,4 @@ standing s out (first o) =
           (begun (drop 8 s) (fresh (opening s)) out);
     }
 standing s out (later {at = at} g q l c p) =
-    onward (standing s out g) q (followed (drop at s) q l c p)
+    onward (standing s out g) q (followed (drop at s) q (standing-whole (standing s out g)) l c p)

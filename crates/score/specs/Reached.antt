@@ -8,6 +8,7 @@ use lib.IntN.{pos}
 use lib.ListN.{length, getD, drop, replicate}
 use Rattle.refusal.specs.Limits.{Between}
 use Rattle.refusal.specs.Orders.{orders, lowest, highest}
+use Rattle.rule.specs.Voice.{Tuning, tuning}
 use Rattle.rule.specs.Calls.{Call, Opening, block, loss, pluck, announce, instant}
 use Rattle.rule.specs.State.{State, call, fresh}
 use Rattle.record.specs.Record.{mapOf, field}
@@ -89,9 +90,13 @@ pub record AsksChange (t : List ℕ) (v : State) (L d : ℕ) : Type 0 where
   pub delay : Given t 2 (v .voice .tuning .d) d
 
 -- "Bit 7 .. makes the change instant"
-pub data Kind (t : List ℕ) (L d : ℕ) (c : Call) : Type 0 where
-  announced : Lacks t 7 → c ≡ announce L d → Kind t L d c
-  instantly : Has t 7 → c ≡ instant L d → Kind t L d c
+pub data Manner (t : List ℕ) (to : Tuning) (c : Call) : Type 0 where
+  announced : Lacks t 7 → c ≡ announce to → Manner t to c
+  instantly : Has t 7 → c ≡ instant to → Manner t to c
+
+-- "Score changes keep the order in force" (document 02, L6)
+abbrev pub keeping : State → ℕ → ℕ → Tuning
+keeping v L d = tuning (v .voice .tuning .N) L d
 
 -- d is a delay that the order in force takes
 abbrev pub Delayed : State → ℕ → Type 0
@@ -101,7 +106,7 @@ Delayed v d = Between (lowest (v .voice .tuning .N)) d (highest (v .voice .tunin
 pub data MakesChange (t : List ℕ) (v u : State) : Type 0 where
   no-change : Lacks t 1 → Lacks t 2 → u ≡ v → MakesChange t v u
   changed : {L d : ℕ} {c : Call} → AsksChange t v L d → Between 1 L 2048 → Delayed v d
-      → v .voice .waiting ≡ none → Kind t L d c → u ≡ call v c → MakesChange t v u
+      → v .voice .waiting ≡ none → Manner t (keeping v L d) c → u ≡ call v c → MakesChange t v u
 
 -- "then plucks"; "no bit 4, no pluck; .. seed 0"; an absent count means "100 samples" (document 02, L2)
 pub data MakesPluck (t : List ℕ) (v u : State) : Type 0 where

@@ -1,6 +1,6 @@
 -- A head whose waiting change took a sample: none waited, the change is put in force, or it waits on.
 -- Assumes nothing.
-use mathlib.Core.Path.{_≡_, refl, ap, _∙_}
+use mathlib.Core.Path.{_≡_, refl}
 use mathlib.Core.Bool.{Bool, true, false, cond}
 use Prim.Native.Nat.{ℕ, suc, _≤_, _<_, min}
 use native.Mathlib.Omega.{arith}
@@ -9,13 +9,12 @@ use lib.IntN.{ℤ}
 use Rattle.rule.specs.Voice as Rule
 use Rattle.rule.specs.Voice.{announced, asked, commits, tuned}
 use Rattle.rule.proofs.Keeps.{announced-asked}
-use Rattle.voice.specs.declared.Tuning.{Tuning}
 use Rattle.voice.specs.declared.Filter.{Filter}
 use Rattle.voice.specs.declared.Kind.{Kind}
 use Rattle.voice.specs.declared.Waiting.the-variants.{Idle, Prepared}
 use Rattle.voice.specs.declared.Head.{Head}
 use Rattle.voice.specs.Struct.{kindOf, preparedOf, voiceOf, withOf, settledOf}
-use Rattle.voice.specs.Valid.{Preparing, Fit}
+use Rattle.voice.specs.Valid.{Fit}
 use Rattle.voice.proofs.Called.{fit-as}
 use Rattle.step.specs.Sample.{Moved, Settles}
 
@@ -29,8 +28,7 @@ module _ {h : Head} (f : Fit h) where
   unfolding Rule.settled
   settles-idle = record { voice = λ q r. refl; fit = f; place = refl }
 
-  module _ {k : Kind} {e n : Filter} {t : ℕ} {g : ℤ}
-      (w : Preparing (h .filter .tuning .order) (h .advance) k e t) (m : Moved e g n) where
+  module _ (k : Kind) {e n : Filter} (t : ℕ) {g : ℤ} (m : Moved e g n) where
     abbrev c : ℕ
     c = min (suc t) (h .advance)
 
@@ -51,7 +49,6 @@ module _ {h : Head} (f : Fit h) where
               fit-as f (f .filter) (f .loss)
               (record {
                 tuned = m .tuned;
-                same = ap (λ (t : Tuning). t .order) (m .tuning) ∙ w .same;
                 counted = omega arith;
                 early = not-yet (kindOf k) c (h .advance) (omega arith) i;
               })

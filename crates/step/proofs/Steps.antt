@@ -25,19 +25,18 @@ use Rattle.voice.specs.Valid.{Waiting-valid, Fit, Valid}
 use Rattle.step.specs.Sample.{Reads, previewed, Sounds, Settles, Circulates, Steps}
 
 -- ---- the length that the eliminator reads at
-previewed-within : (N a : ℕ) (w : Waiting) (L : ℕ) → Waiting-valid N a w → 1 ≤ L → L ≤ 2048
+previewed-within : (a : ℕ) (w : Waiting) (L : ℕ) → Waiting-valid a w → 1 ≤ L → L ≤ 2048
     → (1 ≤ previewed w L) × (previewed w L ≤ 2048)
-previewed-within N a Idle L v h k = (h, k)
-previewed-within N a (Prepared i e n) L v h k = (v .tuned .short, v .tuned .long)
+previewed-within a Idle L v h k = (h, k)
+previewed-within a (Prepared i e n) L v h k = (v .tuned .short, v .tuned .long)
 
 -- m is what `preview` returns
 pub preview-within : {h : Head} {m : ℕ} → Fit h → m ≡ previewed (h .waiting) (h .filter .tuning .length)
     → (1 ≤ m) × (m ≤ 2048)
 preview-within {h} f e =
     let L = h .filter .tuning .length in
-    let N = h .filter .tuning .order in
     let t = f .filter in
-    rw e (previewed-within N (h .advance) (h .waiting) L (f .waiting) (t .short) (t .long))
+    rw e (previewed-within (h .advance) (h .waiting) L (f .waiting) (t .short) (t .long))
 
 reads-at : (w : Waiting) (L : ℕ) (q : ℕ → ℤ) {g : ℤ} → q (previewed w L) ≡ g → Reads w q g
 reads-at Idle L q e = tt
@@ -76,9 +75,6 @@ module _ {h : Head} {l : List ℤ} (v : Valid h l) {x : ℤ} {p : Sounded} {r : 
     pluck = o .plucked;
     at = c .place;
   }
-
-  pub heard-waiting : Waiting-valid (r .filter .tuning .order) (h .advance) (h .waiting)
-  heard-waiting = rw (c .hears .moved .tuning) (v .fit .waiting)
 
   heard-y : r .y .n ≡ output (voiceOf h) q
   unfolding output

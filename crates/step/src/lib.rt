@@ -34,7 +34,7 @@ fn counted(taken: u32, advance: u32) -> u32
 // The waiting change w takes g; an announced one is put in force once it has taken as many samples as the
 // advance.
 fn settled(h: Head, w: Waiting, g: Value) -> Head
-    requires { ⌜ Fit h × Waiting-valid (h .filter .tuning .order) (h .advance) w × (natAbs (g .n) ≤ M) ⌝ }
+    requires { ⌜ Fit h × Waiting-valid (h .advance) w × (natAbs (g .n) ≤ M) ⌝ }
     ensures { λ r. ⌜ Settles h w (g .n) r ⌝ }
 {
     match w {

@@ -38,7 +38,7 @@ voice-by h e i = cc
 
 -- a head with the same advance, last output and place
 pub fit-as : {h : Head} {f : Filter} {g : ℕ} {w : Waiting} {p : Pluck} → Fit h → Tuned f → g ≤ 65535
-    → Waiting-valid (f .tuning .order) (h .advance) w → Plucked p
+    → Waiting-valid (h .advance) w → Plucked p
     → Fit (record {
       filter = f;
       loss = g;

@@ -3,10 +3,8 @@
 use Prim.Native.Nat.{ℕ, _≤_}
 use Rattle.refusal.specs.Orders.{Takes}
 use Rattle.refusal.specs.Returned.{AllKept, none, more}
+use Rattle.rule.specs.Voice.{Tuning, Voice}
 use Rattle.rule.specs.Calls.{Opening, openLimits, changeLimits}
-use Rattle.voice.specs.declared.Head.{Head}
-use Rattle.voice.specs.Struct.{voiceOf}
-use Rattle.voice.specs.Valid.{Fit}
 
 abbrev pub Tunes : ℕ → ℕ → ℕ → Type 0
 Tunes N L d = Takes N d × (1 ≤ L) × (L ≤ 2048)
@@ -19,8 +17,6 @@ opening-tunes (more n (more l (more d (more g (more a none))))) = (
   a .most,
 )
 
-pub change-tunes : {h : Head} {L d : ℕ} → Fit h → AllKept (changeLimits (voiceOf h) L d)
-    → Tunes (h .filter .tuning .order) L d
-change-tunes k (more l (more d (more w none))) =
-    let t = k .filter .takes in
-    (record { least = t .least; most = t .most; low = d .least; high = d .most }, l .least, l .most)
+pub change-tunes : (v : Voice) (t : Tuning) → AllKept (changeLimits v t) → Tunes (t .N) (t .L) (t .d)
+change-tunes v t (more n (more l (more d (more w none)))) =
+    (record { least = n .least; most = n .most; low = d .least; high = d .most }, l .least, l .most)

@@ -31,17 +31,16 @@ pub record Tuned (f : Filter) : Type 0 where
   pub past : f .state ≡ stored (filterOf f)
   pub within : Within (2 * M) (filterOf f)
 
--- a waiting change: its filter, of the voice's order, has taken no more samples than the advance as they are
--- counted, and fewer where it was announced
-pub record Preparing (order advance : ℕ) (kind : Kind) (e : Filter) (taken : ℕ) : Type 0 where
+-- a waiting change: its filter, of any order, has taken no more samples than the advance as they are counted,
+-- and fewer where it was announced
+pub record Preparing (advance : ℕ) (kind : Kind) (e : Filter) (taken : ℕ) : Type 0 where
   pub tuned : Tuned e
-  pub same : e .tuning .order ≡ order
   pub counted : taken ≤ advance
   pub early : kindOf kind ≡ announced → taken < advance
 
-abbrev pub Waiting-valid : ℕ → ℕ → Waiting → Type 0
-Waiting-valid order advance Idle = Unit {0}
-Waiting-valid order advance (Prepared k e n) = Preparing order advance k e n
+abbrev pub Waiting-valid : ℕ → Waiting → Type 0
+Waiting-valid advance Idle = Unit {0}
+Waiting-valid advance (Prepared k e n) = Preparing advance k e n
 
 -- a pluck, all 0 where no step is left
 pub record Plucked (p : Pluck) : Type 0 where
@@ -56,7 +55,7 @@ pub record Fit (h : Head) : Type 0 where
   pub loss : h .loss ≤ most-loss
   pub advance : h .advance ≤ most-advance
   pub last : natAbs (h .last .n) ≤ M
-  pub waiting : Waiting-valid (h .filter .tuning .order) (h .advance) (h .waiting)
+  pub waiting : Waiting-valid (h .advance) (h .waiting)
   pub pluck : Plucked (h .pluck)
   pub at : h .at < 2112
 

@@ -4,7 +4,7 @@ ghost use mathlib.Core.Path.{_≡_};
 ghost use mathlib.Core.List.{[], _∷_};
 ghost use Prim.Native.Nat.{_≤_};
 ghost use Rattle.refusal.specs.Limits.{refusal};
-ghost use Rattle.refusal.specs.Orders.{Takes, orders, delay as Delay};
+ghost use Rattle.refusal.specs.Orders.{Takes, orders, order as Order, delay as Delay};
 ghost use Rattle.rule.specs.Tests.{long};
 ghost use Rattle.rule.specs.Voice.{commits as Commits};
 ghost use Rattle.voice.specs.Struct.{kindOf, withOf, settledOf};
@@ -121,12 +121,22 @@ pub fn resting(order: u32, length: u32, delay: u32) -> Filter
     }
 }
 
-// What a length and a delay are refused by in an order: 2, 3, else 0.
-pub fn untuned(order: u32, length: u32, delay: u32) -> u32
+// What a length and a delay are refused by in an order that there is: 2, 3, else 0.
+fn in_order(order: u32, length: u32, delay: u32) -> u32
     requires { ⌜ (1 ≤ order) × (order ≤ orders) ⌝ }
     ensures { λ r. ⌜ r ≡ refusal (long length ∷ Delay order delay ∷ []) ⌝ }
 {
     let code = refusal::tested(0, refusal::LENGTH, length, 1, refusal::LONGEST);
     let middle = 4_096 * order;
     refusal::tested(code, refusal::DELAY, delay, middle - 2_047, middle + 2_048)
+}
+
+// What a tuning is refused by: 1, 2, 3, else 0.
+pub fn untuned(order: u32, length: u32, delay: u32) -> u32
+    ensures { λ r. ⌜ r ≡ refusal (Order order ∷ long length ∷ Delay order delay ∷ []) ⌝ }
+{
+    if refusal::outside(order, 1, refusal::ORDERS) {
+        return refusal::ORDER;
+    }
+    in_order(order, length, delay)
 }

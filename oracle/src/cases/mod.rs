@@ -5,6 +5,7 @@ pub mod field;
 pub mod lines;
 pub mod lists;
 pub mod notes;
+pub mod orders;
 pub mod random;
 pub mod recordings;
 pub mod score_fields;

@@ -14,7 +14,8 @@ pub struct Text {
     pub odd: u64,
     /// Whether lengths are near to 2,048.
     pub long: bool,
-    order: u32,
+    /// The order of the opened voice, or the one that the last change named.
+    pub order: u32,
     advance: u32,
 }
 
@@ -43,7 +44,7 @@ impl Text {
     }
 
     /// A length.
-    fn length(&mut self) -> u32 {
+    pub fn length(&mut self) -> u32 {
         let usual = match self.long {
             true => field::long_length(&mut self.random),
             false => field::length(&mut self.random),
@@ -69,7 +70,7 @@ impl Text {
         let advance = self.value(usual, 0, 64);
         let order = self.value(order, *ORDERS.start(), *ORDERS.end());
         let (voice, _) = Voice::open(order, length, delay, loss, advance);
-        (self.order, self.advance) = (voice.order, voice.advance);
+        (self.order, self.advance) = (voice.tuning.order, voice.advance);
         self.line(format!("open {order} {length} {delay} {loss} {advance}"));
     }
 
@@ -89,11 +90,19 @@ impl Text {
         self.line(format!("pluck {amplitude} {count} {seed}"));
     }
 
-    /// `announce`, `instant` or `ask`.
+    /// `announce`, `instant` or `ask`, to this order; an odd one names another.
+    pub fn change_to(&mut self, name: &str, order: u32) {
+        self.order = order;
+        let (length, delay) = (self.length(), self.delay(order));
+        let order = self.value(order, *ORDERS.start(), *ORDERS.end());
+        self.line(format!("{name} {order} {length} {delay}"));
+    }
+
+    /// The same, to any order, or to the one named before.
     pub fn change(&mut self, name: &str) {
-        let length = self.length();
-        let delay = self.delay(self.order);
-        self.line(format!("{name} {length} {delay}"));
+        let order = field::order(&mut self.random);
+        let order = if self.random.one_in(3) { self.order } else { order };
+        self.change_to(name, order);
     }
 
     /// One input sample; `kind` is the kind of signal.

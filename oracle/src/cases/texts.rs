@@ -1,10 +1,10 @@
 //! Random console texts.
 
 use super::random::Random;
-use super::{asked, lines, lists, recordings, words};
+use super::{asked, lines, lists, orders, recordings, words};
 
 /// The number of kinds of text; case `index` has the kind `index` modulo this.
-const KINDS: u64 = 24;
+const KINDS: u64 = 26;
 
 /// The same lines, with a carriage return before each line feed.
 fn with_returns(text: &[u8]) -> Vec<u8> {
@@ -45,6 +45,7 @@ fn plain(seed: u64, index: u64) -> Vec<u8> {
         19 => recordings::written(random).bytes(),
         20 => recordings::damaged(random).bytes(),
         21..=22 => asked::asked(random).bytes(),
+        23..=24 => orders::orders(random).bytes(),
         _ => words::words(random).bytes(),
     }
 }

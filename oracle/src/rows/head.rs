@@ -11,7 +11,7 @@ use Prim.Native.Nat.{ℕ}
 use lib.IntN.{ℤ, pos, negsuc}
 use lib.ListN.{length, take}
 use Rattle.refusal.specs.Limits.{refusal}
-use Rattle.rule.specs.Voice.{announced, asked, Voice}
+use Rattle.rule.specs.Voice.{announced, asked, tuning, Voice}
 use Rattle.rule.specs.Calls.{Call, block, loss, pluck, announce, instant, ask, commit, withdraw}
 use Rattle.rule.specs.Calls.{Opening, openLimits}
 use Rattle.rule.specs.State as State

@@ -6,6 +6,7 @@ pub mod files;
 pub mod head;
 pub mod lists;
 pub mod notes;
+pub mod orders;
 pub mod records;
 pub mod scores;
 pub mod table;

@@ -2,14 +2,21 @@
 
 use super::answers::{open, opening, Answers, Opening};
 use super::head::HEAD;
-use super::lists::{List, LISTS, OPENINGS};
+use super::lists::{List, OPENINGS};
 use super::term::{bracketed, integer, integers, natural, naturals, numbers, Term};
+use super::{lists, orders};
 use crate::call::Call;
-use crate::voice::{Kind, Tuning, Voice};
+use crate::tuning::Tuning;
+use crate::voice::{Kind, Voice};
 
 /// The record of an opening.
 fn opening_term(opening: Opening) -> Term {
     numbers(["N", "L", "d", "G", "Na"], opening)
+}
+
+/// What a change names.
+fn tuning_text(Tuning { order, length, delay }: Tuning) -> String {
+    format!("(tuning {order} {length} {delay})")
 }
 
 /// A call.
@@ -17,9 +24,9 @@ fn call_text(call: &Call) -> String {
     match call {
         Call::Loss { loss } => format!("loss {loss}"),
         Call::Pluck { amplitude, count, seed } => format!("pluck {amplitude} {count} {seed}"),
-        Call::Announced { length, delay } => format!("announce {length} {delay}"),
-        Call::Instant { length, delay } => format!("instant {length} {delay}"),
-        Call::Asked { length, delay } => format!("ask {length} {delay}"),
+        Call::Announced { to } => format!("announce {}", tuning_text(*to)),
+        Call::Instant { to } => format!("instant {}", tuning_text(*to)),
+        Call::Asked { to } => format!("ask {}", tuning_text(*to)),
         Call::Commit => "commit".to_string(),
         Call::Withdraw => "withdraw".to_string(),
         Call::Block { input, places } if input.is_empty() => format!("block [] {places}"),
@@ -31,8 +38,8 @@ fn call_text(call: &Call) -> String {
 }
 
 /// The record of N, L and d.
-fn tuning_term(order: u32, tuning: &Tuning) -> Term {
-    numbers(["N", "L", "d"], [order, tuning.length, tuning.delay])
+fn tuning_term(Tuning { order, length, delay }: Tuning) -> Term {
+    numbers(["N", "L", "d"], [order, length, delay])
 }
 
 /// How a change waits.
@@ -47,9 +54,9 @@ fn voice_term(voice: &Voice) -> Term {
         None => Term::Words("none".to_string()),
         Some(change) => Term::Some(Box::new(Term::Record(vec![
             ("kind", kind_term(change.kind)),
-            ("tuning", tuning_term(voice.order, &change.tuning)),
+            ("tuning", tuning_term(change.tuning)),
             ("taken", Term::Words(natural(change.counted(voice.advance)))),
-            ("state", integers(change.tuning.filter.state())),
+            ("state", integers(change.eliminator.state())),
         ]))),
     };
     let pluck = match voice.pluck.left {
@@ -57,10 +64,10 @@ fn voice_term(voice: &Voice) -> Term {
         left => [voice.pluck.amplitude, left, voice.pluck.noise],
     };
     Term::Record(vec![
-        ("tuning", tuning_term(voice.order, &voice.tuning)),
+        ("tuning", tuning_term(voice.tuning)),
         ("G", Term::Words(natural(voice.loss))),
         ("Na", Term::Words(natural(voice.advance))),
-        ("state", integers(voice.tuning.filter.state())),
+        ("state", integers(voice.filter.state())),
         ("last", Term::Words(integer(voice.last_output()))),
         ("waiting", waiting),
         ("pluck", numbers(["amplitude", "left", "noise"], pluck)),
@@ -98,8 +105,13 @@ fn openings() -> String {
     )
 }
 
+/// The lists of the rows; the field `asked` among the last hides the kind of that name from those after it.
+pub fn lists() -> impl Iterator<Item = &'static List> {
+    orders::LISTS.iter().chain(lists::LISTS)
+}
+
 /// The module `Rows`.
 pub fn module() -> String {
-    let rows: String = LISTS.iter().map(row).collect();
+    let rows: String = lists().map(row).collect();
     format!("{HEAD}{}{rows}", openings())
 }

@@ -1,6 +1,7 @@
 -- `change::instant` meets its contract: a resting eliminator, run over the line, is put in force.
 -- Assumes nothing.
 use borrow.Author.Needs.{needs}
+use Rattle.rule.specs.Voice.{tuning}
 use Rattle.rule.specs.Calls.{instant, number}
 use Rattle.voice.specs.Struct.{voiceOf}
 use Rattle.voice.proofs.Called.{called-refused, on}
@@ -17,9 +18,9 @@ returns c =
     let s = c .before .before in
     let a = s .args in
     let e = c .before .refused .ensures .number in
-    let k = called-refused (a .head) (instant (a .length) (a .delay)) (s .pre .fit) e (c .if1 .taken) in (
+    let k = called-refused (a .head) (instant (tuning (a .order) (a .length) (a .delay))) (s .pre .fit) e (c .if1 .taken) in (
       on (a .line .now) k (s .pre .line),
-      count-refused (voiceOf (a .head)) (a .length) (a .delay) e (c .if1 .taken),
+      count-refused (voiceOf (a .head)) (tuning (a .order) (a .length) (a .delay)) e (c .if1 .taken),
     )
 
 resting-requires : tie.Need-resting-requires
@@ -44,7 +45,7 @@ returns-2 c =
     let ran = p .prepared .ensures in (
       rw (c .with .ensures)
           (changes-instantly (s .pre .fit) (r .resting .ensures) (a .line .now) (s .pre .line) e z ran),
-      count-accepted (voiceOf (a .head)) (a .length) (a .delay) e z,
+      count-accepted (voiceOf (a .head)) (tuning (a .order) (a .length) (a .delay)) e z,
     )
 
 pub instant-spec : {M : Type 1} → statement M

@@ -1,6 +1,7 @@
 -- `change::prepare` meets its contract: its eliminator is at rest, and in force at once or waiting.
 -- Assumes nothing.
 use borrow.Author.Needs.{needs}
+use Rattle.rule.specs.Voice.{tuning}
 use Rattle.rule.specs.Calls.{prepare, number}
 use Rattle.voice.specs.Struct.{kindOf}
 use Rattle.voice.proofs.Called.{called-refused}
@@ -17,7 +18,7 @@ returns c =
     let s = c .before .before in
     let a = s .args in
     let e = c .before .refused .ensures .number in
-    called-refused (a .head) (prepare (kindOf (a .kind)) (a .length) (a .delay)) (s .pre) e (c .if1 .taken)
+    called-refused (a .head) (prepare (kindOf (a .kind)) (tuning (a .order) (a .length) (a .delay))) (s .pre) e (c .if1 .taken)
 
 resting-requires : tie.Need-resting-requires
 resting-requires c κs = c .before .refused .ensures .within (c .if1 .left)

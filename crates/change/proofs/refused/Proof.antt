@@ -4,7 +4,8 @@ use mathlib.Core.Path.{_≡_, sym, _∙_}
 use mathlib.Core.List.{[], _∷_}
 use borrow.Author.Needs.{needs}
 use Rattle.refusal.specs.Limits.{refusal}
-use Rattle.refusal.specs.Orders.{delay}
+use Rattle.refusal.specs.Orders.{order, delay}
+use Rattle.rule.specs.Voice.{tuning}
 use Rattle.rule.specs.Calls.{changeLimits}
 use Rattle.rule.specs.Tests.{long}
 use Rattle.voice.specs.Struct.{voiceOf}
@@ -27,11 +28,12 @@ returns c =
     let u = c .before .before in
     let s = u .before in
     let a = s .args in
-    let tuning = long (a .length) ∷ delay (a .h .filter .tuning .order) (a .delay) ∷ [] in
-    let tests = changeLimits (voiceOf (a .h)) (a .length) (a .delay) in
+    let first = order (a .order) ∷ long (a .length) ∷ delay (a .order) (a .delay) ∷ [] in
+    let t = tuning (a .order) (a .length) (a .delay) in
+    let tests = changeLimits (voiceOf (a .h)) t in
     let e : c .tested .result ≡ refusal tests =
-    rw (c .before .waiting .ensures) at (c .tested .ensures tuning tt (u .untuned .ensures)) in
-    record { number = e; within = λ z. change-tunes (s .pre) (passed tests tt (sym e ∙ z)) }
+    rw (c .before .waiting .ensures) at (c .tested .ensures first tt (u .untuned .ensures)) in
+    record { number = e; within = λ z. change-tunes (voiceOf (a .h)) t (passed tests tt (sym e ∙ z)) }
 
 pub refused-spec : {M : Type 1} → statement M
 refused-spec = tie.close (tie.spec untuned-requires waiting-requires tested-requires returns)

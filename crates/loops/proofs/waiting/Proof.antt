@@ -24,13 +24,13 @@ use Rattle.loops.proofs.waiting.Statement.{statement}
 use Rattle.loops.proofs.waiting.Tie as tie
 
 abbrev Inv-loop : tie.InvT-loop
-Inv-loop line₀ order h e taken buffer₀ v₀ u₀ last₀ at₀ i₀ line buffer v u last at i =
+Inv-loop line₀ order coming h e taken buffer₀ v₀ u₀ last₀ at₀ i₀ line buffer v u last at i =
     let k = carriedOf h (anewOf order (h .filter) v) last at in
-    let d = settledOf k (kindIn (h .waiting)) (anewOf order e u) (min (taken + i) (h .advance)) in
+    let d = settledOf k (kindIn (h .waiting)) (anewOf coming e u) (min (taken + i) (h .advance)) in
     Passed buffer₀ (stateOf h line₀) buffer d line i
 
 abbrev μ-loop : tie.MeasureT-loop
-μ-loop line₀ order h e taken buffer₀ v₀ u₀ last₀ at₀ i₀ line buffer v u last at i = length buffer₀ - i
+μ-loop line₀ order coming h e taken buffer₀ v₀ u₀ last₀ at₀ i₀ line buffer v u last at i = length buffer₀ - i
 
 loop-holds : tie.Need-loop-holds Inv-loop μ-loop
 loop-holds c =
@@ -38,11 +38,10 @@ loop-holds c =
     let h = s .args .h in
     let e = s .args .e in
     let t = s .args .taken in
-    let w : Preparing (h .filter .tuning .order) (h .advance) (kindIn (h .waiting)) e t
-    = subst (λ (w : Waiting). Waiting-valid (h .filter .tuning .order) (h .advance) w) (s .pre .1 .1)
-    (s .pre .0 .0 .fit .waiting) in
+    let w : Preparing (h .advance) (kindIn (h .waiting)) e t
+    = subst (λ (w : Waiting). Waiting-valid (h .advance) w) (s .pre .1 .2) (s .pre .0 .0 .fit .waiting) in
     let z : min (t + 0) (h .advance) ≡ t = omega (arith, w .counted) in
-    started (due-self h (s .pre .1 .0) (s .pre .1 .0 ∙ sym (w .same)) (s .pre .1 .1) z (w .early))
+    started (due-self h (s .pre .1 .0) (s .pre .1 .1) (s .pre .1 .2) z (w .early))
     (s .pre .0 .1) (s .pre .0 .0)
 
 -- a pass of the loop, once its sample is read: the change still waits
@@ -57,7 +56,7 @@ module _ (c : tie.After-read Inv-loop μ-loop) where
   filter = anewOf (start .args .order) (start .args .h .filter) (pass .loop .v)
 
   abbrev eliminator : Filter
-  eliminator = anewOf (start .args .order) (start .args .e) (pass .loop .u)
+  eliminator = anewOf (start .args .coming) (start .args .e) (pass .loop .u)
 
   abbrev quiet : Head
   quiet = carriedOf (start .args .h) filter (pass .loop .last) (pass .loop .at)
@@ -161,7 +160,7 @@ loop-again c =
     let z : min (suc (count r)) (h .advance) ≡ min (s .args .taken + (l .i + 1)) (h .advance)
     = omega arith in
     more (so-far r) (r .before .before .loop-test .taken) (r .read .ensures)
-    (led-steps h (s .pre .1 .2) made m (valid r)) (wrote .write .ensures)
+    (led-steps h (s .pre .1 .3) made m (valid r)) (wrote .write .ensures)
     (due-as h y at (kindIn (h .waiting)) same-filter same-next z)
 
 anew-requires-3 : tie.Need-anew-requires-3 Inv-loop μ-loop

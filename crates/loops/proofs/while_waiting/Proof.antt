@@ -22,13 +22,12 @@ module _ (s : tie.Start) where
   kind-in : kindIn (h .waiting) ≡ s .args .kind
   kind-in = ap kindIn (s .pre .1 .0)
 
-  waits : Preparing (h .filter .tuning .order) (h .advance) (s .args .kind) (s .args .e) (s .args .taken)
+  waits : Preparing (h .advance) (s .args .kind) (s .args .e) (s .args .taken)
   waits =
-      subst (λ (w : Waiting). Waiting-valid (h .filter .tuning .order) (h .advance) w) (s .pre .1 .0)
-      (s .pre .0 .0 .fit .waiting)
+      subst (λ (w : Waiting). Waiting-valid (h .advance) w) (s .pre .1 .0) (s .pre .0 .0 .fit .waiting)
 
-by-order-requires : tie.Need-by-order-requires
-by-order-requires c κs =
+by-orders-requires : tie.Need-by-orders-requires
+by-orders-requires c κs =
     let s = c .before .before in
     let k = sym (kind-in s) in (
       (s .pre .0 .0, s .pre .0 .1, λ a. s .pre .0 .2 (ap kindOf k ∙ a)),
@@ -50,19 +49,19 @@ returns c =
     let p = n .before .before .before .before in
     let s = p .before .before .before in
     let xs = s .args .buffer .now in
-    let r = p .by-order .result in
+    let r = p .by-orders .result in
     let e =
     c .settle .ensures
     ∙ ap (settledOf (r .head) (s .args .kind) (r .next)) (n .counted .ensures)
     ∙ ap (λ (k : Kind). settledOf (r .head) k (r .next) (min (s .args .taken + length xs) (h s .advance)))
     (sym (kind-in s)) in
     subst
-    (λ (k : Head). Rendered xs (stateOf (h s) (s .args .line .now)) (p .by-order .last .1 .1 .1 .1 .0)
-    (stateOf k (p .by-order .last .0)) (length xs)
-    × Valid k (p .by-order .last .0))
+    (λ (k : Head). Rendered xs (stateOf (h s) (s .args .line .now)) (p .by-orders .last .1 .1 .1 .1 .0)
+    (stateOf k (p .by-orders .last .0)) (length xs)
+    × Valid k (p .by-orders .last .0))
     (sym e)
-    (p .by-order .ensures)
+    (p .by-orders .ensures)
 
 pub while-waiting-spec : {M : Type 1} → statement M
 while-waiting-spec =
-    tie.close (tie.spec by-order-requires counted-requires settle-requires same-length returns)
+    tie.close (tie.spec by-orders-requires counted-requires settle-requires same-length returns)

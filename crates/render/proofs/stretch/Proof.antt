@@ -38,11 +38,9 @@ module _ (c : tie.After-w) where
   abbrev h : Head
   h = start .args .h
 
-  waits : Preparing (h .filter .tuning .order) (h .advance) (c .w .given .0 .0) (c .w .given .0 .1 .0)
-      (c .w .given .0 .1 .1 .0)
+  waits : Preparing (h .advance) (c .w .given .0 .0) (c .w .given .0 .1 .0) (c .w .given .0 .1 .1 .0)
   waits =
-      subst (λ (w : Waiting). Waiting-valid (h .filter .tuning .order) (h .advance) w) (c .w .given .1)
-      (start .pre .0 .fit .waiting)
+      subst (λ (w : Waiting). Waiting-valid (h .advance) w) (c .w .given .1) (start .pre .0 .fit .waiting)
 
 sub-reach : tie.Need-sub-reach
 sub-reach c = omega (arith, waits (c .before .before) .counted)

@@ -20,11 +20,8 @@ module _ (c : tie.After-w) where
   abbrev h : Head
   h = c .before .before .args .h
 
-  waits : Preparing (h .filter .tuning .order) (h .advance) (c .w .given .0 .0) (c .w .given .0 .1 .0)
-      (c .w .given .0 .1 .1 .0)
-  waits =
-      subst (λ (w : Waiting). Waiting-valid (h .filter .tuning .order) (h .advance) w) (c .w .given .1)
-      (c .before .before .pre .1)
+  waits : Preparing (h .advance) (c .w .given .0 .0) (c .w .given .0 .1 .0) (c .w .given .0 .1 .1 .0)
+  waits = subst (λ (w : Waiting). Waiting-valid (h .advance) w) (c .w .given .1) (c .before .before .pre .1)
 
 enum-told : tie.Need-enum-told
 enum-told c = search needs
@@ -52,7 +49,7 @@ returns-2 c =
     settles-as (a .w .given .1)
     (c .settle .ensures
     ∙ ap (settledOf (h a) (a .w .given .0 .0) (m .moved .result)) (n .counted .ensures))
-    (settles (a .before .before .pre .0) (waits a) (m .moved .ensures))
+    (settles (a .before .before .pre .0) (a .w .given .0 .0) (a .w .given .0 .1 .1 .0) (m .moved .ensures))
 
 pub settled-spec : {M : Type 1} → statement M
 settled-spec =

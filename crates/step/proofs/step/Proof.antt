@@ -6,7 +6,7 @@ use borrow.Author.Needs.{needs}
 use Rattle.rule.specs.State.{back}
 use Rattle.line.specs.Ring.{ring}
 use Rattle.voice.proofs.Within.{read-within}
-use Rattle.step.proofs.Steps.{preview-within, reads, heard-fit, heard-waiting, steps}
+use Rattle.step.proofs.Steps.{preview-within, reads, heard-fit, steps}
 use Rattle.step.proofs.step.Statement.{statement}
 use Rattle.step.proofs.step.Tie as tie
 
@@ -35,7 +35,7 @@ settled-requires c κs =
     let o = p .sound .ensures in
     let k = l .circulate .ensures in (
       heard-fit v o k,
-      heard-waiting v o k,
+      v .fit .waiting,
       read-within (r .before .preview .result - 1) (v .line) (r .read .ensures),
     )
 
