@@ -7,10 +7,10 @@
 #include <string.h>
 #include <time.h>
 
-enum { ROUNDS = 20, RUNS = 15, SAMPLES = 1 << 17, RECORDS = 1 << 14 };
+enum { ROUNDS = 20, RUNS = 15, SAMPLES = 1 << 17 };
 
 /* A score is short enough to be played within one turn that the system gives a program. */
-static uint8_t score[16 * RECORDS];
+static uint8_t score[1 << 18];
 static size_t score_length;
 static int32_t output[2][SAMPLES];
 
@@ -35,22 +35,6 @@ static double perform(int which, Played *p)
 {
     double from = seconds();
     perform_list(which, output[which], SAMPLES, p);
-    return seconds() - from;
-}
-
-/* The same for reading every record; the sum of all numbers read is what must agree. */
-static double read_all(int which, Played *p)
-{
-    size_t (*read)(const uint8_t *, size_t, uint32_t *) = which ? jivaszte_record : plain_record;
-    uint32_t fields[JIVASZTE_FIELDS] = { 0 };
-    memset(p, 0, sizeof *p);
-    double from = seconds();
-    for (size_t at = 0, took; at < score_length && (took = read(score + at, score_length - at, fields)) > 0; at += took) {
-        for (int i = 0; i < JIVASZTE_FIELDS; i++)
-            p->written = 31 * p->written + fields[i];
-        p->place++;
-    }
-    p->refusal = fields[0];
     return seconds() - from;
 }
 
@@ -110,22 +94,21 @@ static int again(Row *r)
 int main(void)
 {
     static Row rows[ROWS];
-    double best[2] = { 0, 0 }, wav[2][2] = { { 0, 0 }, { 0, 0 } };
-    Played p;
+    static double read[READINGS][READERS];
+    double wav[2][2] = { { 0, 0 }, { 0, 0 } };
     int agree = 1;
     make_rows(rows);
     for (int round = 0; round < ROUNDS; round++) {
         for (int i = 0; i < ROWS; i++)
             rows[i].agree &= again(&rows[i]);
-        score_length = make_records(score, RECORDS);
-        agree &= best_of(read_all, best, &p) && p.place == RECORDS;
+        for (int k = 0; k < READINGS; k++)
+            agree &= time_readers(k, read[k]);
         agree &= time_recording(0, wav[0]) && time_recording(1, wav[1]);
     }
     for (int i = 0; i < ROWS; i++)
         agree &= rows[i].agree;
     print_rows(rows);
-    printf("\nrecord reader: C %.0f, proved %.0f million records a second, ratio %.2f\n", RECORDS / best[0] / 1e6,
-           RECORDS / best[1] / 1e6, best[0] / best[1]);
+    print_readers(read);
     for (int k = 0; k < 2; k++)
         printf("WAV %s: C %.0f, proved %.0f million samples a second, ratio %.2f\n", k ? "reader" : "writer",
                1 / wav[k][0], 1 / wav[k][1], wav[k][0] / wav[k][1]);

@@ -1,4 +1,4 @@
-/* The rows of the table, and how bench.c prints them. */
+/* The rows of the tables, and how bench.c prints them. */
 #include "bench.h"
 #include <stdio.h>
 
@@ -67,4 +67,17 @@ void print_rows(const Row *rows)
     printf("|---|---|---|---|---|---|\n");
     for (const Row *none = rows; none < rows + WAITS * ORDERS; none += WAITS)
         print_costs(none, none + WAITS * ORDERS, none + 2 * WAITS * ORDERS);
+}
+
+void print_readers(double read[READINGS][READERS])
+{
+    static const char *const of[] = { "every bit map in turn", "bit maps without a pattern", "a tune" };
+    printf("\n| records of | C, ns a record | before L8 | proved | before over proved | C over proved |\n");
+    printf("|---|---|---|---|---|---|\n");
+    for (int k = 0; k < READINGS; k++) {
+        double *r = read[k];
+        printf("| %s | %.1f | %.1f | %.1f | %.2f | %.2f |\n", of[k], 1e9 * r[0], 1e9 * r[1], 1e9 * r[2], r[1] / r[2],
+               r[0] / r[2]);
+    }
+    printf("\n");
 }

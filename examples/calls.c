@@ -62,6 +62,11 @@ static void record(const char *what, const uint8_t *score, size_t length)
     printf("\n");
 }
 
+static void gather(const uint8_t *bytes, size_t length, size_t start)
+{
+    printf("gather %zu bytes from %zu: %llu\n", length, start, (unsigned long long)jivaszte_gather(bytes, length, start));
+}
+
 static void run(const char *what, const uint8_t *score, size_t length, size_t room)
 {
     int32_t output[16];
@@ -182,6 +187,11 @@ int main(void)
     record("cut short", every, 14);
     record("of no byte", every, 0);
     record("with a seed alone", seed, sizeof seed);
+    gather(every, 16, 0);
+    gather(every, 16, 9);
+    gather(every, 16, 16);
+    gather(every, 16, SIZE_MAX);
+    gather(every, 0, 0);
     run("of the paper", paper, sizeof paper, 16);
     run("with no room left", paper, sizeof paper, 9);
     run("of order 3", third, sizeof third, 16);

@@ -40,6 +40,10 @@ fn record(what: &str, score: &[u8]) {
     println!("record {what}: takes {}, {refusal} {map}{}", score.len() - rest.len(), joined(&numbers));
 }
 
+fn gather(bytes: &[u8], start: usize) {
+    println!("gather {} bytes from {start}: {}", bytes.len(), jivaszte::gather(bytes, start));
+}
+
 fn run(what: &str, score: &[u8], room: usize) {
     let mut output = [7; 16];
     let (number, place, written) = match jivaszte::run(score, &mut output[..room]) {
@@ -139,6 +143,11 @@ fn main() {
     record("cut short", &every[..14]);
     record("of no byte", &[]);
     record("with a seed alone", &seed);
+    gather(&every, 0);
+    gather(&every, 9);
+    gather(&every, 16);
+    gather(&every, usize::MAX);
+    gather(&[], 0);
     run("of the paper", &paper, 16);
     run("with no room left", &paper, 9);
     run("of order 3", &third, 16);

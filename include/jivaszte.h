@@ -127,6 +127,10 @@ int32_t jivaszte_draw(uint32_t *noise);
    record takes, and 0 where it is refused, by 14 or 15; the fields that it does not have are 0. */
 size_t jivaszte_record(const uint8_t *score, size_t length, uint32_t fields[JIVASZTE_FIELDS]);
 
+/* The number that the bytes from a start on make, eight at most, the first lowest; bytes that are missing are 0, so that
+   a start at the end or past it, wherever that is, gives 0. */
+uint64_t jivaszte_gather(const uint8_t *bytes, size_t length, size_t start);
+
 /* Makes calls on a voice of its own, one after the other, each on what the one before left. A call is four words: its
    kind, and three numbers, of which those that it does not use are not looked at:
        block      how many samples it takes from the input, the length of the output that it is lent

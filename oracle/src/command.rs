@@ -36,6 +36,7 @@ pub enum Command {
     Line { count: usize },
     WavWrite { rate: u32, places: usize, samples: Vec<i32> },
     WavRead { places: usize, bytes: Vec<u8> },
+    Gather { start: u32, bytes: Vec<u8> },
     Help,
 }
 
@@ -125,6 +126,12 @@ fn run(words: &[&[u8]]) -> Option<Command> {
     Some(Command::Run { places: places(first, RUN_LIMIT)?, bytes: bytes(rest)? })
 }
 
+/// `gather START B1 B2 ..`
+fn gather(words: &[&[u8]]) -> Option<Command> {
+    let (first, rest) = words.split_first()?;
+    Some(Command::Gather { start: unsigned(first)?, bytes: bytes(rest)? })
+}
+
 /// A line that has words. `None` is "A line that is none of these", answered by `error`.
 fn command(name: &[u8], rest: &[&[u8]]) -> Option<Command> {
     match name {
@@ -155,6 +162,7 @@ fn command(name: &[u8], rest: &[&[u8]]) -> Option<Command> {
         b"note" => numbers(rest).map(|[order, rate, note]| Command::Note { order, rate, note }),
         b"draw" => numbers(rest).map(|[state]| Command::Draw { state }),
         b"record" => Some(Command::Record { bytes: bytes(rest)? }),
+        b"gather" => gather(rest),
         b"run" => run(rest),
         b"wavwrite" => wav_write(rest),
         b"wavread" => wav_read(rest),

@@ -4,6 +4,7 @@ use crate::allpass::effective_length;
 use crate::call::{Call, UNTOUCHED};
 use crate::command::{commands, lines, Command};
 use crate::expected::{expected, help};
+use crate::gather::gather;
 use crate::noise::draw;
 use crate::note::note;
 use crate::record::read_record;
@@ -155,6 +156,9 @@ impl Console {
             Command::WavRead { places, bytes } => answer_wav_read(*places, bytes),
             Command::State => self.answer_state(),
             Command::Line { count } => self.answer_line(*count),
+            Command::Gather { start, bytes } => {
+                format!("gather {}", gather(bytes, *start as usize))
+            }
             Command::Help => help(),
         }
     }

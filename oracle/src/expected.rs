@@ -26,6 +26,7 @@ fn calls() -> Vec<(&'static str, String)> {
         ("line", "K (at most LINE)"),
         ("wavwrite", "RATE ROOM X1 X2 .. (ROOM at most FILE, X BLOCK)"),
         ("wavread", "ROOM B1 B2 .. (ROOM at most READ)"),
+        ("gather", "START B1 B2 .."),
         ("help", "nothing"),
     ];
     let limits = [

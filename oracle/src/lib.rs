@@ -13,6 +13,7 @@ pub mod compare;
 pub mod console;
 pub mod expected;
 pub mod figures;
+pub mod gather;
 pub mod natural;
 pub mod noise;
 pub mod note;

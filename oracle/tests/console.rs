@@ -54,6 +54,12 @@ fn routines() {
         ("record 13 01 00 02 00 03 00 ff", "record 0 19 1 2 0 0 3 0 0 1"),
         ("record 13 01 00 02 00 03", "record 14 0 0 0 0 0 0 0 0 6"),
         ("record", "record 14 0 0 0 0 0 0 0 0 0"),
+        ("gather 0 01 02 03 04 05 06 07 08 09", "gather 578437695752307201"),
+        ("gather 7 01 02 03 04 05 06 07 08 09", "gather 2312"),
+        ("gather 8 01 02 03 04 05 06 07 08 ff", "gather 255"),
+        ("gather 9 01 02 03 04 05 06 07 08 ff", "gather 0"),
+        ("gather 4294967295 01", "gather 0"),
+        ("gather 0 ff ff ff ff ff ff ff ff ff", "gather 18446744073709551615"),
         ("run 3 01 00 03 00 00 10 00 80 01 02 00", "run 0 1 2 0 0 77"),
         ("run 1 01 00 03 00 00 10 00 80 01 02 00", "run 16 0 0 77"),
     ]);
@@ -113,8 +119,6 @@ fn calls_are_listed() {
     assert!(
         listed.starts_with("help open takes N L D G NA; loss takes G; pluck takes A COUNT SEED; ")
     );
-    assert!(
-        listed.ends_with("; wavread takes ROOM B1 B2 .. (ROOM at most 4096); help takes nothing\n")
-    );
-    assert_eq!(listed.split("; ").count(), 20);
+    assert!(listed.ends_with("; gather takes START B1 B2 ..; help takes nothing\n"));
+    assert_eq!(listed.split("; ").count(), 21);
 }

@@ -26,6 +26,7 @@ extern "C" {
     ) -> u32;
     pub fn jivaszte_draw(noise: &mut u32) -> i32;
     pub fn jivaszte_record(score: *const u8, length: usize, fields: &mut [u32; 9]) -> usize;
+    pub fn jivaszte_gather(bytes: *const u8, length: usize, start: usize) -> u64;
     pub fn jivaszte_perform(
         order: u32,
         length: u32,

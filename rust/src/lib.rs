@@ -20,7 +20,7 @@ mod wav;
 pub use filter::{coefficients, draw, effective_length, note, ORDERS};
 pub use list::{perform, Call, Opening, Performed};
 pub use refusal::Refusal;
-pub use score::{record, run, Played, Record, Stopped};
+pub use score::{gather, record, run, Played, Record, Stopped};
 pub use wav::{wav_file, wav_read, wav_size, wav_write, MOST_SAMPLES};
 
 /// The version of this crate; header and program have the same.

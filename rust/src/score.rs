@@ -1,4 +1,4 @@
-//! Scores in bytes: the run, and the record reader.
+//! Scores in bytes: the run, the record reader, and the words that it gathers.
 
 use crate::c;
 use crate::Refusal;
@@ -80,4 +80,16 @@ pub fn record(score: &[u8]) -> Result<(Record, &[u8]), Refusal> {
         instant: stands(7),
     };
     Ok((record, &score[took..]))
+}
+
+/// The number that the bytes from a start on make, eight at most, the first lowest. Bytes that are missing
+/// are 0: a start at the end or past it gives 0.
+///
+/// ```
+/// assert_eq!(jivaszte::gather(&[1, 2, 3], 1), 0x0302);
+/// assert_eq!(jivaszte::gather(&[1, 2, 3], usize::MAX), 0);
+/// ```
+pub fn gather(bytes: &[u8], start: usize) -> u64 {
+    // SAFETY: as for `run`.
+    unsafe { c::jivaszte_gather(bytes.as_ptr(), bytes.len(), start) }
 }

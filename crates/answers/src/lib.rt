@@ -15,6 +15,7 @@ use print::triple;
 use request::Request;
 use request::kinds::COEFFICIENTS;
 use request::kinds::DRAW;
+use request::kinds::GATHER;
 use request::kinds::HELP;
 use request::kinds::LENGTH;
 use request::kinds::NOTE;
@@ -89,6 +90,24 @@ fn record(buffer: &mut [u8; 4096], at: usize, s: &[u8], list: usize) -> usize
     number(buffer, a, left as u64)
 }
 
+// The word that the first bytes make from a start on.
+fn gathered(given: &[u8; 349526], count: usize, start: usize) -> u64
+    requires { ⌜ count ≤ 349526 ⌝ }
+{
+    let s: &[u8] = given;
+    octets::gather(&s[..count], start)
+}
+
+fn gather(buffer: &mut [u8; 4096], at: usize, s: &[u8], l: Request) -> usize
+    requires { ⌜ Within (length (now s)) l ⌝ }
+    ensures { λ r. ⌜ r ≤ 4097 ⌝ }
+{
+    let mut given = bytes_room();
+    let list = l.list;
+    let r = bytes(&s[list..], &mut given);
+    number(buffer, at, gathered(&given, r.count, l.a as usize))
+}
+
 // What a line that asks for one of them is answered by; a line that is wrong asks for nothing.
 pub fn asked(buffer: &mut [u8; 4096], at: usize, s: &[u8], l: Request) -> usize
     requires { ⌜ Within (length (now s)) l ⌝ }
@@ -103,6 +122,7 @@ pub fn asked(buffer: &mut [u8; 4096], at: usize, s: &[u8], l: Request) -> usize
         RECORD => record(buffer, at, s, l.list),
         WAVWRITE => recordings::write(buffer, at, s, l),
         WAVREAD => recordings::read(buffer, at, s, l),
+        GATHER => gather(buffer, at, s, l),
         HELP => help(buffer, at),
         _ => at,
     }

@@ -7,6 +7,7 @@ ghost use Rattle.thiran.specs.Answers.{design};
 ghost use Rattle.allpass.specs.Length.{effectiveLength};
 ghost use Rattle.pitch.specs.Pitch.{pitch};
 ghost use Rattle.noise.specs.Noise.{drawn};
+ghost use Rattle.octets.specs.Octets.{gathered};
 ghost use Rattle.record.specs.Record.{fields as Fields, rest as Rest};
 ghost use Rattle.list.specs.Performed.{Performs};
 ghost use Rattle.score.specs.Played.{Runs};
@@ -91,6 +92,14 @@ pub extern "C" fn jivaszte_record(score: &[u8], fields: &mut [u32; 9]) -> usize
 {
     let rest = record::read_record(score, fields);
     score.len() - rest.len()
+}
+
+// The number that the bytes from start on make, eight at most.
+#[no_mangle]
+pub extern "C" fn jivaszte_gather(bytes: &[u8], start: usize) -> u64
+    ensures { λ r. ⌜ r ≡ gathered (now (bytes .entry)) start ⌝ }
+{
+    octets::gather(bytes, start)
 }
 
 // A list of calls, in words, on a fresh voice.

@@ -2,3 +2,5 @@ pub mod Laws
 pub mod Fields
 pub mod Lists
 pub mod Theorems
+pub mod Gathers
+pub mod GatherRows

@@ -12,6 +12,14 @@ unfoldable pub number : List ℕ → ℕ
 number [] = 0
 number (b ∷ bs) = b + 256 * number bs
 
+-- "from a slice and a start .. the number that the bytes there make, eight at most, the first lowest, missing ones 0"
+abbrev pub gathered : List ℕ → ℕ → ℕ
+gathered s start = number (take 8 (drop start s))
+
+-- 16 bits of a word, from its byte k on
+abbrev pub sixteen : ℕ → ℕ → ℕ
+sixteen w k = w / 2 ^ (8 * k) % 65536
+
 -- the lowest w bytes of n, "low byte first"
 unfoldable pub bytes : ℕ → ℕ → List ℕ
 bytes zero n = []

@@ -7,6 +7,10 @@ ghost use lib.ListN.{length, take, drop};
 ghost use Rattle.octets.specs.Octets.{number, bytes, bits as Bits, signed as Signed, laid};
 use integer::Value;
 
+mod word;
+
+pub use word::gather;
+
 // Puts the lowest width bytes of n into the slice, from the place at on.
 pub fn put(out: &mut [u8], at: usize, width: usize, n: u64)
     requires { ⌜ at + width ≤ length (now out) ⌝ }
@@ -23,6 +27,7 @@ pub fn put(out: &mut [u8], at: usize, width: usize, n: u64)
     }
 }
 
+// A byte as a number of 64 bits.
 fn wide(b: u8) -> u64
     ensures { λ r. ⌜ (r ≡ b) × (r < 256) ⌝ }
 {
@@ -44,7 +49,7 @@ pub fn get(s: &[u8], at: usize, width: usize) -> u64
 }
 
 // The same where some of the bytes, or all, are missing: these count as 0.
-pub fn gather(s: &[u8], at: usize, width: usize) -> u64
+pub fn part(s: &[u8], at: usize, width: usize) -> u64
     requires { ⌜ width ≤ 8 ⌝ }
     ensures { λ r. ⌜ (r ≡ number (take width (drop at (now (s .entry))))) × (r < 2 ^ (8 * width)) ⌝ }
 {

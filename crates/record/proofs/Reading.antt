@@ -8,8 +8,7 @@ use borrow.Author.Tests.{eq-eqb, ne-eqb}
 use lib.ListN.{length, drop, replicate}
 use Rattle.refusal.specs.Returned.{Returned}
 use Rattle.refusal.proofs.Returned.{here, past, kept-is, is-met, returned}
-use Rattle.record.specs.Record.{bit, before, bytes, word, mapOf}
-use Rattle.record.specs.Record.{present, field, illFormed, whole, formed}
+use Rattle.record.specs.Record.{bytes, mapOf, illFormed, whole, formed}
 use Rattle.record.specs.Record.{recordLimits, recordNumber, read, fields, rest}
 
 -- demand 1 of reading a record: 14, then 15, each where its condition holds and no earlier one does
@@ -53,14 +52,3 @@ module _ (s : List ℕ) where
     pub taken-rest : drop (bytes (mapOf s)) s ≡ rest s
     unfolding rest
     taken-rest = rw (eq-eqb (recordNumber s) 0 (sym e))
-
--- ---- a whole record
-pub placed : (s : List ℕ) (k : ℕ) (m at : ℕ) {x : ℕ} → m ≡ mapOf s → at ≡ before m k
-    → x ≡ present (bit m k) (word s at) → x ≡ field s k
-unfolding field
-placed s k m at e i r = r ∙ rw (i, e)
-
-pub read-as : (s : List ℕ) {m w l d g a n z : ℕ} → m ≡ mapOf s → w ≡ field s 0 → l ≡ field s 1 → d ≡ field s 2
-    → g ≡ field s 3 → a ≡ field s 4 → n ≡ field s 5 → z ≡ field s 6
-    → 0 ∷ m ∷ w ∷ l ∷ d ∷ g ∷ a ∷ n ∷ z ∷ [] ≡ 0 ∷ read s
-read-as s e0 e1 e2 e3 e4 e5 e6 e7 = cc

@@ -4,8 +4,12 @@ ghost use mathlib.Core.Path.{_≡_};
 ghost use mathlib.Core.List.{_∷_};
 ghost use Prim.Native.Nat.{_+_, _*_, _/_, _%_, _≤_, _<_};
 ghost use lib.ListN.{length, replicate};
-ghost use Rattle.record.specs.Record.{bytes as Bytes, word as Word, present, without as Without};
-ghost use Rattle.record.specs.Record.{mapOf, illFormed, read, fields as Fields, rest as Rest};
+ghost use Rattle.record.specs.Record.{bytes as Bytes, word as Word, without as Without};
+ghost use Rattle.record.specs.Record.{illFormed, fields as Fields, rest as Rest};
+
+mod cut;
+
+use cut::fill;
 
 // The nine numbers of a record that is read: its number, its bit map, and its seven fields.
 pub const NUMBER: usize = 0;
@@ -90,54 +94,11 @@ pub fn word(s: &[u8], at: usize) -> u32
     (s[at] as u32) + 256 * (s[at + 1] as u32)
 }
 
-// The field whose bit counts unit, which stands at the place at; 0 where it is absent.
-fn field(s: &[u8], map: u32, unit: u32, at: usize) -> u32
-    requires { ⌜ (0 < unit) × (at + 2 * (map / unit % 2) ≤ length (now s)) ⌝ }
-    ensures { λ r. ⌜ r ≡ present (map / unit % 2) (Word (now (s .entry)) at) ⌝ }
-{
-    if bit(map, unit) == 0 {
-        return 0;
-    }
-    word(s, at)
-}
-
-// The place after the field whose bit counts unit, which stands at the place at where it is present.
-fn after(map: u32, unit: u32, at: usize) -> usize
-    requires { ⌜ (0 < unit) × (at < 16) ⌝ }
-    ensures { λ r. ⌜ r ≡ at + 2 * (map / unit % 2) ⌝ }
-{
-    at + 2 * (bit(map, unit) as usize)
-}
-
 // A refused record: its number, and nothing else.
 fn refuse(fields: &mut [u32; 9], number: u32)
     ensures { λ _. ⌜ now (fields .exit) ≡ number ∷ replicate 8 0 ⌝ }
 {
     *fields = [number, 0, 0, 0, 0, 0, 0, 0, 0];
-}
-
-// A record that is whole: 0, its bit map and its fields, one after the other.
-fn fill(s: &[u8], map: u32, fields: &mut [u32; 9])
-    requires { ⌜ (map ≡ mapOf (now s)) × (Bytes map ≤ length (now s)) ⌝ }
-    ensures { λ _. ⌜ now (fields .exit) ≡ 0 ∷ read (now (s .entry)) ⌝ }
-{
-    let length = after(map, HAS_WAIT, 1);
-    let delay = after(map, HAS_LENGTH, length);
-    let loss = after(map, HAS_DELAY, delay);
-    let amplitude = after(map, HAS_LOSS, loss);
-    let count = after(map, HAS_AMPLITUDE, amplitude);
-    let seed = after(map, HAS_COUNT, count);
-    *fields = [
-        0,
-        map,
-        field(s, map, HAS_WAIT, 1),
-        field(s, map, HAS_LENGTH, length),
-        field(s, map, HAS_DELAY, delay),
-        field(s, map, HAS_LOSS, loss),
-        field(s, map, HAS_AMPLITUDE, amplitude),
-        field(s, map, HAS_COUNT, count),
-        field(s, map, HAS_SEED, seed),
-    ];
 }
 
 // Reads the record that the slice starts with, and returns the part of the slice after it. fields become its

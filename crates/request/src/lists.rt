@@ -5,6 +5,7 @@ ghost use mathlib.Core.Bool.{true};
 ghost use Prim.Native.Nat.{_≤_};
 ghost use lib.ListN.{length, replicate};
 use crate::kinds::BLOCK;
+use crate::kinds::GATHER;
 use crate::kinds::RECORD;
 use crate::kinds::RUN;
 use crate::kinds::WAVREAD;
@@ -134,7 +135,7 @@ pub fn listed(kind: u32, s: &[u8], numbers: bool, places: bool) -> bool
         if places {
             return match kind {
                 BLOCK | WAVWRITE => sampled(s),
-                RECORD | RUN | WAVREAD => byted(s),
+                RECORD | RUN | WAVREAD | GATHER => byted(s),
                 _ => ended(s),
             };
         }

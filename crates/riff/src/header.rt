@@ -7,7 +7,7 @@ ghost use Rattle.octets.specs.Octets.{laid};
 ghost use Rattle.riff.specs.Format.{riff as Riff, format as Format, dataHead, header as Header};
 ghost use Rattle.riff.specs.Held.{rateOf, countOf};
 use crate::sizes::padding;
-use octets::gather;
+use octets::part;
 use octets::put;
 
 // The letters `RIFF`, the RIFF size and the letters `WAVE`.
@@ -61,12 +61,12 @@ pub fn header(file: &mut [u8], rate: u64, count: usize)
 pub fn rate_of(file: &[u8]) -> u32
     ensures { λ r. ⌜ r ≡ rateOf (now (file .entry)) ⌝ }
 {
-    gather(file, 24, 4) as u32
+    part(file, 24, 4) as u32
 }
 
 // How many samples its data size counts.
 pub fn count_of(file: &[u8]) -> usize
     ensures { λ r. ⌜ (r ≡ countOf (now (file .entry))) × (r < 2 ^ 32) ⌝ }
 {
-    (gather(file, 40, 4) / 3) as usize
+    (part(file, 40, 4) / 3) as usize
 }

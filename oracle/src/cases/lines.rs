@@ -14,7 +14,16 @@ pub fn hex(bytes: &[u8]) -> String {
     bytes.iter().map(|byte| format!(" {byte:02X}")).collect()
 }
 
-/// Coefficients, effective lengths, notes and draws; one argument in four on a limit or beyond it,
+/// A gather of up to 20 bytes, from a start within them, on the end or past it.
+fn gather(text: &mut Text) {
+    let count = text.random.below(21) as u32;
+    let bytes: Vec<u8> = (0..count).map(|_| text.random.number() as u8).collect();
+    let usual = text.random.between(0, count + 2);
+    let start = text.value(usual, 0, count);
+    text.line(format!("gather {start}{}", hex(&bytes)));
+}
+
+/// Coefficients, effective lengths, notes, draws and gathers; one argument in four on a limit or beyond it,
 /// then notes on a limit.
 pub fn routines(random: Random) -> Text {
     let mut text = Text::new(random, 4, false);
@@ -36,6 +45,7 @@ pub fn routines(random: Random) -> Text {
         let state = text.random.number() as u32;
         let state = text.value(state, 0, u32::MAX);
         text.line(format!("draw {state}"));
+        gather(&mut text);
     }
     for _ in 0..4 {
         let found = notes::delay_on_limit(&mut text.random);

@@ -73,7 +73,7 @@ impl Report {
             let mut words = line.split(' ');
             match words.next() {
                 Some("error") => self.errors += 1,
-                Some("draw" | "state" | "line" | "help") | None => {}
+                Some("draw" | "state" | "line" | "gather" | "help") | None => {}
                 Some(_) => {
                     let answer = words.next().and_then(|word| word.parse::<usize>().ok());
                     self.refusals[answer.expect("an answer has a number")] += 1;

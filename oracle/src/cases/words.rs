@@ -37,6 +37,8 @@ const LINES: &[&str] = &[
     "wavwrite 192000 60 8388607 -8388608", "wavwrite 192001 60", "wavwrite 44100 50 +1", "wavread",
     "wavread 0", "wavread 4096", "wavread 4097", "wavread 3 52 49 46 4", "wavread 3 52 49 46 46",
     "wavread -1",
+    "gather", "gather 0", "gather -1", "gather 0 1", "gather 0 01 02", "gather 1 01 02", "gather 2 01 02", "gather 3 01 02",
+    "gather 4294967295 01", "gather 4294967296 01", "gather 1 00 01 02 03 04 05 06 07 08 09",
     "help", "help", "help 1", "help#", " help ", "Help", "helps", "state\r", "state\r\r", "state \r", "\r", "\r\r", "\rstate",
     "loss\r1", "loss 1\r2", "loss 1\r", "loss 1 \r#", "loss 1#\r", "# \r", "block 1 5\r", "record 00\r", "record 00\r 00",
     "line", "line 2112", "line 2113", "line 0", "line 1 2", "line -1", "line 3", "s", "end", "error 1", "77",

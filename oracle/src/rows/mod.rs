@@ -3,6 +3,7 @@
 
 pub mod answers;
 pub mod files;
+pub mod gathers;
 pub mod head;
 pub mod lists;
 pub mod notes;
@@ -22,6 +23,7 @@ pub const MODULES: &[Module] = &[
     ("NoteRows", notes::module),
     ("ScoreRows", scores::module),
     ("FileRows", files::module),
+    ("GatherRows", gathers::module),
 ];
 
 /// The names of the modules, a line for each.

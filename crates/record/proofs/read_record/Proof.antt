@@ -4,8 +4,10 @@ use mathlib.Core.Path.{sym, ap, _∙_}
 use Prim.Native.Nat.{ℕ}
 use native.Mathlib.Omega.{arith}
 use lib.ListN.{drop}
+use Rattle.octets.specs.Theorems.{Bytes}
+use Rattle.record.proofs.Words.{cut-fields}
 use Rattle.record.proofs.Reading.{cut-short, bad-map, good-map}
-use Rattle.record.proofs.Reading.{refused-fields, refused-rest, taken-fields, taken-rest}
+use Rattle.record.proofs.Reading.{refused-fields, refused-rest, taken-rest}
 use borrow.Author.Needs.{needs}
 use borrow.Rule.Slice.PartAt.{part-to-end}
 use Rattle.record.proofs.read_record.Statement.{statement}
@@ -75,9 +77,10 @@ returns-4 c =
     let i = t .before in
     let b = i .before .before in
     let s = b .before .before .before .before .args .s .now in
+    let known : Bytes s = λ k. omega (arith, b .before .shared-slice-known2 .given k) in
     let e = good-map s (omega (arith, i .before .if2 .left, b .bytes .ensures))
     (sym (i .ill-formed .ensures) ∙ t .if3 .left) in (
-      c .before .fill .ensures ∙ taken-fields s e,
+      c .before .fill .ensures ∙ cut-fields s known e,
       part-to-end s (b .bytes .result) ∙ ap (λ (n : ℕ). drop n s) (b .bytes .ensures) ∙ taken-rest s e,
     )
 

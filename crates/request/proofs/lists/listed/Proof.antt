@@ -8,11 +8,11 @@ use Rattle.request.proofs.lists.listed.Tie as tie
 sampled-requires : tie.Need-sampled-requires
 sampled-requires c κs = search needs
 
-ended-requires : tie.Need-ended-requires
-ended-requires c κs = search needs
-
 byted-requires : tie.Need-byted-requires
 byted-requires c κs = search needs
+
+ended-requires : tie.Need-ended-requires
+ended-requires c κs = search needs
 
 returns : tie.Need-returns
 returns c = search needs
@@ -34,8 +34,8 @@ listed-spec =
     tie.close
     (tie.spec
     sampled-requires
-    ended-requires
     byted-requires
+    ended-requires
     returns
     returns-2
     returns-3

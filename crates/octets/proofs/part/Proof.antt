@@ -1,4 +1,4 @@
--- `octets::gather` meets its contract: what is missing adds nothing.
+-- `octets::part` meets its contract: what is missing adds nothing.
 -- Assumes nothing.
 use mathlib.Core.Path.{_≡_, sym, ap, _∙_}
 use mathlib.Core.List.{List}
@@ -7,15 +7,12 @@ use native.Mathlib.Nat.{lt-of-lt-of-le}
 use native.Mathlib.Omega.{arith}
 use borrow.Author.Needs.{needs}
 use lib.Pow.{pow-pos, pow-mono}
-use lib.ListN.{length, take, drop, length-drop, drop-of-length-le}
-use lib.Seq.{take-all, take-nil}
+use lib.ListN.{length, take, drop, length-drop}
+use lib.Seq.{take-all}
 use Rattle.octets.specs.Octets.{number}
-use Rattle.octets.proofs.gather.Statement.{statement}
-use Rattle.octets.proofs.gather.Tie as tie
-
-none : (s : List ℕ) (at width : ℕ) → length s ≤ at → 0 ≡ number (take width (drop at s))
-unfolding number
-none s at width h = rw (drop-of-length-le s {i = at} h, take-nil width)
+use Rattle.octets.proofs.Gathers.{none-there}
+use Rattle.octets.proofs.part.Statement.{statement}
+use Rattle.octets.proofs.part.Tie as tie
 
 some : (s : List ℕ) (at width : ℕ) → length s - at ≤ width
     → take (length s - at) (drop at s) ≡ take width (drop at s)
@@ -26,7 +23,7 @@ some s at width h =
 returns : tie.Need-returns
 returns c =
     let a = c .before .before .args in
-    (none (a .s .now) (a .at) (a .width) (c .if1 .taken), pow-pos (8 * a .width))
+    (none-there (a .width) (a .s .now) (a .at) (c .if1 .taken), pow-pos (8 * a .width))
 
 sub-left : tie.Need-sub-left
 sub-left c = search needs
@@ -49,5 +46,5 @@ get-requires-2 c κs = search needs
 returns-3 : tie.Need-returns-3
 returns-3 c = search needs
 
-pub gather-spec : {M : Type 1} → statement M
-gather-spec = tie.close (tie.spec returns sub-left get-requires returns-2 get-requires-2 returns-3)
+pub part-spec : {M : Type 1} → statement M
+part-spec = tie.close (tie.spec returns sub-left get-requires returns-2 get-requires-2 returns-3)
