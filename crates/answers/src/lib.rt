@@ -2,7 +2,7 @@
 // line's name. The record's nine numbers are lent with 77 at each place.
 ghost use Prim.Native.Nat.{_≤_};
 ghost use lib.ListN.{length};
-ghost use Rattle.request.specs.Within.{Within};
+ghost use Rattle.request.specs.InLine.{InLine};
 
 mod recordings;
 
@@ -99,7 +99,7 @@ fn gathered(given: &[u8; 349526], count: usize, start: usize) -> u64
 }
 
 fn gather(buffer: &mut [u8; 4096], at: usize, s: &[u8], l: Request) -> usize
-    requires { ⌜ Within (length (now s)) l ⌝ }
+    requires { ⌜ InLine (length (now s)) l ⌝ }
     ensures { λ r. ⌜ r ≤ 4097 ⌝ }
 {
     let mut given = bytes_room();
@@ -110,7 +110,7 @@ fn gather(buffer: &mut [u8; 4096], at: usize, s: &[u8], l: Request) -> usize
 
 // What a line that asks for one of them is answered by; a line that is wrong asks for nothing.
 pub fn asked(buffer: &mut [u8; 4096], at: usize, s: &[u8], l: Request) -> usize
-    requires { ⌜ Within (length (now s)) l ⌝ }
+    requires { ⌜ InLine (length (now s)) l ⌝ }
     ensures { λ r. ⌜ (at ≤ 4097 → r ≤ 4097) ⌝ }
 {
     let kind = l.kind;

@@ -2,7 +2,7 @@
 // A file is lent with 4d at each place, samples with 77.
 ghost use Prim.Native.Nat.{_≤_};
 ghost use lib.ListN.{length};
-ghost use Rattle.request.specs.Within.{Within};
+ghost use Rattle.request.specs.InLine.{InLine};
 use print::file;
 use print::number;
 use print::pair;
@@ -23,7 +23,7 @@ fn written(rate: u32, given: &[i32; 4096], count: usize, file: &mut [u8], places
 
 // The answer to a line that asks for a file.
 pub fn write(buffer: &mut [u8; 4096], at: usize, s: &[u8], l: Request) -> usize
-    requires { ⌜ Within (length (now s)) l ⌝ }
+    requires { ⌜ InLine (length (now s)) l ⌝ }
     ensures { λ r. ⌜ r ≤ 4097 ⌝ }
 {
     let mut given = [0i32; 4096];
@@ -46,7 +46,7 @@ fn recorded(given: &[u8; 349526], count: usize, samples: &mut [i32], places: usi
 
 // The answer to a line that asks for the samples of a file.
 pub fn read(buffer: &mut [u8; 4096], at: usize, s: &[u8], l: Request) -> usize
-    requires { ⌜ Within (length (now s)) l ⌝ }
+    requires { ⌜ InLine (length (now s)) l ⌝ }
     ensures { λ r. ⌜ r ≤ 4097 ⌝ }
 {
     let mut given = bytes_room();

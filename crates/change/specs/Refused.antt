@@ -10,6 +10,6 @@ use Rattle.voice.specs.declared.Head.{Head}
 use Rattle.voice.specs.Struct.{voiceOf}
 
 -- r is what a change is refused by; the tuning of one that is not is within its limits
-pub record Refuses (h : Head) (N L d r : ℕ) : Type 0 where
+pub record RefusedBy (h : Head) (N L d r : ℕ) : Type 0 where
   pub number : r ≡ refusal (changeLimits (voiceOf h) (tuning N L d))
   pub within : r ≡ 0 → Takes N d × (1 ≤ L) × (L ≤ 2048)

@@ -15,7 +15,7 @@ ghost use Rattle.voice.specs.Struct.{kindOf, waitingOf, voiceOf};
 ghost use Rattle.voice.specs.Valid.{Tuned, Fit, Valid};
 ghost use Rattle.step.specs.Sample.{Ran};
 ghost use Rattle.voice.specs.Called.{Called, On};
-ghost use Rattle.change.specs.Refused.{Refuses};
+ghost use Rattle.change.specs.Refused.{RefusedBy};
 use refusal::tested;
 use step::filter::moved;
 use voice::Answer;
@@ -48,7 +48,7 @@ fn waiting(w: Waiting) -> u32
 
 // What a change is refused by: 1, 2, 3, then 6, else 0.
 fn refused(h: Head, order: u32, length: u32, delay: u32) -> u32
-    ensures { λ r. ⌜ Refuses h order length delay r ⌝ }
+    ensures { λ r. ⌜ RefusedBy h order length delay r ⌝ }
 {
     let code = untuned(order, length, delay);
     let w = h.waiting;

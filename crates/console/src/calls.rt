@@ -1,20 +1,10 @@
 // The calls on the voice that the console keeps. Each leaves a voice that the next may be made on.
 // The line is lent; the head goes by value.
-ghost use mathlib.Core.Path.{_≡_};
-ghost use mathlib.Core.List.{List};
-ghost use Prim.Native.Nat.{_≤_};
-ghost use lib.IntN.{ℤ};
+ghost use Prim.Native.Nat.{_≤_, _<_};
 ghost use lib.ListN.{length};
-ghost use Rattle.voice.specs.Valid.{Fit, Valid};
+ghost use Rattle.voice.specs.Valid.{Valid};
 use request::Request;
-use request::kinds::ANNOUNCE;
-use request::kinds::ASK;
-use request::kinds::COMMIT;
-use request::kinds::INSTANT;
-use request::kinds::LOSS;
 use request::kinds::OPEN;
-use request::kinds::PLUCK;
-use request::kinds::WITHDRAW;
 use request::lists::samples;
 use voice::Answer;
 use voice::Head;
@@ -24,18 +14,6 @@ pub struct Made {
     pub refusal: u32,
     pub count: u32,
     pub head: Head,
-}
-
-// What a call returned that has no count.
-fn plain(a: Answer) -> Made
-    ensures { λ r. ⌜ r .head ≡ a .head ⌝ }
-{
-    let h = a.head;
-    Made {
-        refusal: a.refusal,
-        count: 0,
-        head: h,
-    }
 }
 
 // Opens a voice in place of the one that was kept, also where Open refuses.
@@ -86,49 +64,12 @@ pub fn blocked(
     over(line, head, &input, r.count, output, places)
 }
 
-// An ask and what ends it; on a line that asks for none the voice is as it was.
-fn pedal(head: Head, l: Request) -> Answer
-    requires { ⌜ Fit head ⌝ }
-    ensures { λ r. ⌜ ((k : List ℤ) → Valid head k → Valid (r .head) k) ⌝ }
-{
-    if l.kind == ASK {
-        return change::ask(head, l.a, l.b, l.c);
-    }
-    if l.kind == COMMIT {
-        return change::asked::commit(head);
-    }
-    if l.kind == WITHDRAW {
-        return change::asked::withdraw(head);
-    }
-    Answer {
-        refusal: 0,
-        head: head,
-    }
-}
-
-// The calls that neither read nor write the line; on a line that asks for none the voice is as it was.
-fn set(head: Head, l: Request) -> Answer
-    requires { ⌜ Fit head ⌝ }
-    ensures { λ r. ⌜ ((k : List ℤ) → Valid head k → Valid (r .head) k) ⌝ }
-{
-    if l.kind == LOSS {
-        return open::calls::loss(head, l.a);
-    }
-    if l.kind == PLUCK {
-        return open::calls::pluck(head, l.a, l.b, l.c);
-    }
-    if l.kind == ANNOUNCE {
-        return change::announce(head, l.a, l.b, l.c);
-    }
-    pedal(head, l)
-}
-
-// An instant change.
-fn instant(line: &[i32; 2112], head: Head, l: Request) -> Made
-    requires { ⌜ Valid head (now line) ⌝ }
+// A call that is no opening: a list has the same calls in the same order, with a block in the opening's place.
+fn set(line: &[i32; 2112], head: Head, l: Request) -> Made
+    requires { ⌜ Valid head (now line) × (1 < l .kind) ⌝ }
     ensures { λ r. ⌜ Valid (r .head) (now (line .entry)) ⌝ }
 {
-    let c = change::instant(line, head, l.a, l.b, l.c);
+    let c = list::one::call(line, head, l.kind - 1, l.a, l.b, l.c);
     let h = c.answer.head;
     Made {
         refusal: c.answer.refusal,
@@ -139,14 +80,11 @@ fn instant(line: &[i32; 2112], head: Head, l: Request) -> Made
 
 // The call that a line asks for, where it lends nothing.
 pub fn call(line: &mut [i32; 2112], head: Head, l: Request) -> Made
-    requires { ⌜ Valid head (now line) ⌝ }
+    requires { ⌜ Valid head (now line) × (0 < l .kind) ⌝ }
     ensures { λ r. ⌜ Valid (r .head) (now (line .exit)) ⌝ }
 {
     if l.kind == OPEN {
         return opened(line, l);
     }
-    if l.kind == INSTANT {
-        return instant(line, head, l);
-    }
-    plain(set(head, l))
+    set(line, head, l)
 }

@@ -1,8 +1,9 @@
 // One line of the text: read, called and answered.
 // What a line lends is made for its call.
+ghost use Prim.Native.Nat.{_<_};
 ghost use lib.ListN.{length};
 ghost use Rattle.voice.specs.Valid.{Valid};
-ghost use Rattle.request.specs.Within.{Within};
+ghost use Rattle.request.specs.InLine.{InLine};
 use crate::calls::blocked;
 use crate::calls::call;
 use crate::run::run;
@@ -38,7 +39,7 @@ fn called(
     at: usize,
     l: Request,
 ) -> Turn
-    requires { ⌜ Valid head (now line) ⌝ }
+    requires { ⌜ Valid head (now line) × (0 < l .kind) ⌝ }
     ensures { λ r. ⌜ Valid (r .head) (now (line .exit)) ⌝ }
 {
     let c = call(line, head, l);
@@ -58,7 +59,7 @@ fn rendered(
     s: &[u8],
     l: Request,
 ) -> Turn
-    requires { ⌜ Valid head (now line) × Within (length (now s)) l ⌝ }
+    requires { ⌜ Valid head (now line) × InLine (length (now s)) l ⌝ }
     ensures { λ r. ⌜ Valid (r .head) (now (line .exit)) ⌝ }
 {
     let mut output = [77i32; 16384];
@@ -80,7 +81,7 @@ fn told(
     s: &[u8],
     l: Request,
 ) -> usize
-    requires { ⌜ Valid head (now line) × Within (length (now s)) l ⌝ }
+    requires { ⌜ Valid head (now line) × InLine (length (now s)) l ⌝ }
 {
     if l.kind == STATE {
         return state(buffer, at, head);
@@ -103,7 +104,7 @@ fn turned(
     s: &[u8],
     l: Request,
 ) -> Turn
-    requires { ⌜ Valid head (now line) × Within (length (now s)) l ⌝ }
+    requires { ⌜ Valid head (now line) × InLine (length (now s)) l × (0 < l .kind) ⌝ }
     ensures { λ r. ⌜ Valid (r .head) (now (line .exit)) ⌝ }
 {
     if l.kind < BLOCK {

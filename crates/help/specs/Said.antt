@@ -5,7 +5,7 @@ use mathlib.Core.List.{List, [], _∷_, _++_}
 use Prim.Native.Nat.{ℕ, zero, suc, _-_}
 use lib.Dec.{eqb}
 use lib.ListN.{take, drop}
-use Rattle.words.specs.Words.{First}
+use Rattle.words.specs.Words.{FirstWord}
 use Rattle.words.specs.Pieces.{ascii}
 use Rattle.print.specs.Printed.{Printed, Number, Each}
 use Rattle.request.specs.Table.{table, row, Named}
@@ -21,7 +21,7 @@ pub data Wrong (index kind : ℕ) (before : List ℕ) (at : ℕ) (after : List �
 
 -- the same of the line s: its first word, from a up to e, names the kind
 pub data Error (s : List ℕ) (index : ℕ) (before : List ℕ) (at : ℕ) (after : List ℕ) (r : ℕ) : Type 0 where
-  of : {a e kind : ℕ} → First s a e → Named table (take (e - a) (drop a s)) kind
+  of : {a e kind : ℕ} → FirstWord s a e → Named table (take (e - a) (drop a s)) kind
       → Wrong index kind before at after r → Error s index before at after r
 
 -- what stands before a call in a list of them

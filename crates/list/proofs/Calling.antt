@@ -1,6 +1,6 @@
 -- The calls of each kind, and what a call puts over the front of a lent output.
 -- Assumes nothing.
-use mathlib.Core.Path.{_≡_, refl, sym, ap, ap₂, _∙_}
+use mathlib.Core.Path.{_≡_, refl, sym, ap, ap₂, subst, _∙_}
 use mathlib.Core.Bool.{Bool, true, false, cond}
 use mathlib.Core.List.{List, [], _++_}
 use Prim.Native.Nat.{ℕ, zero, suc, _≤_, _<_}
@@ -9,13 +9,16 @@ use borrow.Author.Tests.{ne-eqb}
 use lib.Dec.{eqb}
 use lib.IntN.{ℤ}
 use lib.ListN.{length, take, drop, take-append-drop}
-use Rattle.rule.specs.Calls.{Call, commit, withdraw, inputs, number}
+use Rattle.rule.specs.Calls.{Call, commit, withdraw, inputs, number, count}
 use Rattle.rule.specs.State.{State, told, blockOut, put}
 use Rattle.rule.proofs.Puts.{put-none}
 use Rattle.voice.specs.declared.Head.{Head}
 use Rattle.voice.specs.Struct.{stateOf, voiceOf}
-use Rattle.voice.specs.Called.{lent}
+use Rattle.voice.specs.declared.Answer.{Answer}
+use Rattle.voice.specs.Called.{On, lent}
+use Rattle.change.specs.declared.Changed.{Changed}
 use Rattle.list.specs.Words.{called, last-kind}
+use Rattle.list.specs.Makes.{Makes}
 use Rattle.samples.specs.Samples.{over}
 
 -- a call of another kind than 0 makes no step
@@ -29,6 +32,20 @@ still (suc (suc (suc (suc (suc zero))))) a b c xs h k = refl
 still (suc (suc (suc (suc (suc (suc zero)))))) a b c xs h k = refl
 still (suc (suc (suc (suc (suc (suc (suc zero))))))) a b c xs h k = refl
 still (suc (suc (suc (suc (suc (suc (suc (suc n)))))))) a b c xs h k = absurd (omega arith)
+
+-- the kind is known to be k
+pub known : (h : Head) (l : List ℤ) (a b c : ℕ) (r : Changed) {n : ℕ} (k : ℕ) → n ≡ k
+    → ((xs : List ℤ) → Makes h l (called k a b c xs) r) → (xs : List ℤ) → Makes h l (called n a b c xs) r
+known h l a b c r k e f =
+    subst (λ (n : ℕ). (xs : List ℤ) → Makes h l (called n a b c xs) r) (sym e) f
+
+-- what was made of a call that counts nothing
+pub uncounted : {h : Head} {l : List ℤ} {c : Call} {a : Answer} {r : Changed} → On h l c a l
+    → (r .answer ≡ a) × (r .count ≡ 0) → count (voiceOf h) c ≡ 0 → Makes h l c r
+uncounted {h} {l} {c} o e z = record {
+  made = subst (λ (x : Answer). On h l c x l) (sym (e .0)) o;
+  count = e .1 ∙ sym z;
+}
 
 -- from kind 6 on it ends an ask
 pub ending : (kind a b c : ℕ) (xs : List ℤ) → 5 < kind

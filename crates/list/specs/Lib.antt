@@ -1,4 +1,5 @@
 pub mod Words
+pub mod Makes
 pub mod Performed
 pub mod Clicks
 pub mod Chain

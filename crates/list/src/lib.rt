@@ -3,7 +3,7 @@
 ghost use Rattle.list.specs.Performed.{Performs};
 use open::open;
 
-mod one;
+pub mod one;
 mod run;
 mod words;
 

@@ -1,5 +1,5 @@
-// One call of a list, on the voice: a block's input and output are parts of what the caller lent.
-// Contracts cite specs/Words.antt, specs/Performed.antt and the voice's specs/Called.antt.
+// One call by its words, a kind and three numbers, on the voice: for a list and for whoever makes calls one by one.
+// Contracts cite specs/Words.antt, specs/Makes.antt and the voice's specs/Called.antt.
 ghost use mathlib.Core.Path.{_≡_};
 ghost use mathlib.Core.Bool.{cond};
 ghost use mathlib.Core.List.{List};
@@ -12,10 +12,12 @@ ghost use Rattle.voice.specs.Struct.{stateOf};
 ghost use Rattle.voice.specs.Valid.{Fit, Valid};
 ghost use Rattle.voice.specs.Called.{Called, On};
 ghost use Rattle.list.specs.Words.{called, takes, lends, last-kind};
+ghost use Rattle.list.specs.Makes.{Makes};
 ghost use Rattle.samples.specs.Samples.{over};
 ghost use lib.IntN.{ℤ};
 use crate::words::Item;
 use block::block;
+use change::Changed;
 use change::announce;
 use change::ask;
 use change::asked::commit;
@@ -25,6 +27,16 @@ use open::calls::loss;
 use open::calls::pluck;
 use voice::Answer;
 use voice::Head;
+
+// What a call returned that has no count.
+fn uncounted(a: Answer) -> Changed
+    ensures { λ r. ⌜ (r .answer ≡ a) × (r .count ≡ 0) ⌝ }
+{
+    Changed {
+        answer: a,
+        count: 0,
+    }
+}
 
 // What ends an ask.
 fn ended(head: Head, kind: u32) -> Answer
@@ -37,41 +49,38 @@ fn ended(head: Head, kind: u32) -> Answer
     withdraw(head)
 }
 
-// The changes, and what ends an ask.
-fn changed(line: &[i32; 2112], head: Head, w: Item) -> Answer
-    requires { ⌜ Valid head (now line) × (2 < w .kind) ⌝ }
-    ensures { λ r. ⌜ ((xs : List ℤ)
-        → On head (now (line .entry)) (called (w .kind) (w .a) (w .b) (w .c) xs) r (now (line .entry))) ⌝ }
+// The calls that take a tuning, of which an instant change reads the line, and what ends an ask.
+fn changed(line: &[i32; 2112], head: Head, kind: u32, a: u32, b: u32, c: u32) -> Changed
+    requires { ⌜ Valid head (now line) × (2 < kind) ⌝ }
+    ensures { λ r. ⌜ ((xs : List ℤ) → Makes head (now (line .entry)) (called kind a b c xs) r) ⌝ }
 {
-    if w.kind == 3 {
-        return announce(head, w.a, w.b, w.c);
+    if kind == 3 {
+        return uncounted(announce(head, a, b, c));
     }
-    if w.kind == 4 {
-        let r = instant(line, head, w.a, w.b, w.c);
-        return r.answer;
+    if kind == 4 {
+        return instant(line, head, a, b, c);
     }
-    if w.kind == 5 {
-        return ask(head, w.a, w.b, w.c);
+    if kind == 5 {
+        return uncounted(ask(head, a, b, c));
     }
-    ended(head, w.kind)
+    uncounted(ended(head, kind))
 }
 
-// The calls that are no block.
-fn set(line: &[i32; 2112], head: Head, w: Item) -> Answer
-    requires { ⌜ Valid head (now line) × (0 < w .kind) ⌝ }
-    ensures { λ r. ⌜ ((xs : List ℤ)
-        → On head (now (line .entry)) (called (w .kind) (w .a) (w .b) (w .c) xs) r (now (line .entry))) ⌝ }
+// Any call that is no block; kinds past the last are taken for it.
+pub fn call(line: &[i32; 2112], head: Head, kind: u32, a: u32, b: u32, c: u32) -> Changed
+    requires { ⌜ Valid head (now line) × (0 < kind) ⌝ }
+    ensures { λ r. ⌜ ((xs : List ℤ) → Makes head (now (line .entry)) (called kind a b c xs) r) ⌝ }
 {
-    if w.kind == 1 {
-        return loss(head, w.a);
+    if kind == 1 {
+        return uncounted(loss(head, a));
     }
-    if w.kind == 2 {
-        return pluck(head, w.a, w.b, w.c);
+    if kind == 2 {
+        return uncounted(pluck(head, a, b, c));
     }
-    changed(line, head, w)
+    changed(line, head, kind, a, b, c)
 }
 
-// Any call: input is what is left of the input, and output what a block may write to.
+// A call of a list, a block too: input is what is left of the input, and output what a block may write to.
 pub fn one(line: &mut [i32; 2112], head: Head, w: Item, input: &[i32], output: &mut [i32]) -> Answer
     requires { ⌜ Valid head (now line)
         × (w .kind ≤ last-kind)
@@ -91,5 +100,6 @@ pub fn one(line: &mut [i32; 2112], head: Head, w: Item, input: &[i32], output: &
         let lends = w.b as usize;
         return block(line, head, &input[..takes], &mut output[..lends]);
     }
-    set(line, head, w)
+    let r = call(line, head, w.kind, w.a, w.b, w.c);
+    r.answer
 }

@@ -9,7 +9,7 @@ use lib.ListN.{length, take, drop, length-append}
 use lib.Seq.{paste, paste-zero, take-length, take-paste, drop-paste, drop-drop, length-paste}
 use Rattle.write.specs.Written.{Wrote}
 use Rattle.write.proofs.Places.{wrote-long}
-use Rattle.print.specs.Printed.{all, less, Room, left, made, Printed}
+use Rattle.print.specs.Printed.{all, less, MadeRoom, left, made, Printed}
 
 -- ---- the buffer
 module _ (b : List ℕ) (a : ℕ) (t u : List ℕ) (h : a + (length t + length u) ≤ length b) where
@@ -56,14 +56,14 @@ wrote-none {t} {u} {b} {c} {d} {a} {k} {r} h w v =
 
 -- ---- what is printed
 -- nothing is printed where room is made
-pub begun : {b : List ℕ} {at k : ℕ} → Room at k → Printed [] b at b k
+pub begun : {b : List ℕ} {at k : ℕ} → MadeRoom at k → Printed [] b at b k
 begun {b} {at} {k} m = record {
   place = k;
   room = m;
   wrote = record { fits = λ g. (omega arith, paste-zero b k []); full = λ g. (refl, refl) };
 }
 
-pub printed : {t b c : List ℕ} {at k r : ℕ} → Room at k → Wrote t b k c r → Printed t b at c r
+pub printed : {t b c : List ℕ} {at k r : ℕ} → MadeRoom at k → Wrote t b k c r → Printed t b at c r
 printed m w = record { place = _; room = m; wrote = w }
 
 pub held : {t b c : List ℕ} {at r : ℕ} → Printed t b at c r → length c ≡ length b
@@ -73,7 +73,7 @@ pub joined : {t u b c d : List ℕ} {at k r : ℕ} → length b ≡ 4096 → len
     → Printed t b at c k → Wrote u c k d r → Printed (t ++ u) b at d r
 joined {t} {u} {b} {c} {d} {at} {k} {r} e h p w = go (p .room) (p .wrote)
   where
-    go : {a : ℕ} → Room at a → Wrote t b a c k → Printed (t ++ u) b at d r
+    go : {a : ℕ} → MadeRoom at a → Wrote t b a c k → Printed (t ++ u) b at d r
     go (left l) v = printed (left l) (wrote-fits (omega arith) v w)
     go (made l all) v = printed (made l all) (wrote-fits (omega arith) v w)
     go (made l less) v = printed (made l less) (wrote-none (omega arith) v w)

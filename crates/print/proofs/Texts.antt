@@ -9,7 +9,7 @@ use lib.ListN.{length, length-append}
 use Rattle.io.specs.Digits.{glyph, digits}
 use Rattle.write.specs.Written as Written
 use Rattle.write.specs.Written.{Spelled}
-use Rattle.print.specs.Printed.{Room, Printed, fewest, Spells, plain, minus, Number, Signed, Line}
+use Rattle.print.specs.Printed.{MadeRoom, Printed, fewest, Spells, plain, minus, Number, Signed, Line}
 use Rattle.print.specs.Printed.{Hex, Each, none, more}
 use Rattle.print.proofs.Joins.{begun, held, joined}
 
@@ -66,7 +66,7 @@ signed x e p s =
     let q = said x (sym (held p) ∙ e) (omega arith) p s in
     record { text = q .text; spells = q .spells; printed = q .printed }
 
-pub lined : {b c d : List ℕ} {at k j r : ℕ} (x : ℤ) → length b ≡ 4096 → Room at k
+pub lined : {b c d : List ℕ} {at k j r : ℕ} (x : ℤ) → length b ≡ 4096 → MadeRoom at k
     → Written.Signed x b k c j → Written.Wrote (10 ∷ []) c j d r → Line x b at d r
 lined x e m s w =
     let q = said x e (omega arith) (begun m) s in

@@ -12,14 +12,14 @@ pub data Went : ℕ → Type 0 where
   less : Went 4097
 
 -- room is made for 64 bytes: the place stays where it leaves as many, else what the buffer held goes out
-pub data Room (at : ℕ) : ℕ → Type 0 where
-  left : at ≤ 4032 → Room at at
-  made : {r : ℕ} → 4032 < at → Went r → Room at r
+pub data MadeRoom (at : ℕ) : ℕ → Type 0 where
+  left : at ≤ 4032 → MadeRoom at at
+  made : {r : ℕ} → 4032 < at → Went r → MadeRoom at r
 
 -- the text t is put at the place where room was made, and the rest of the buffer is as it was
 pub record Printed (t before : List ℕ) (at : ℕ) (after : List ℕ) (r : ℕ) : Type 0 where
   pub place : ℕ
-  pub room : Room at place
+  pub room : MadeRoom at place
   pub wrote : Wrote t before place after r
 
 -- t is a number n in as few decimal digits as it has; a number with a `-` where it is below zero

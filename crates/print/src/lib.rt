@@ -4,7 +4,7 @@
 ghost use mathlib.Core.List.{[], _∷_};
 ghost use Prim.Native.Nat.{_≤_};
 ghost use lib.ListN.{take};
-ghost use Rattle.print.specs.Printed.{Went, Room, Printed, Number, Numbers, Signed, Signeds, Hex, Hexes, Line};
+ghost use Rattle.print.specs.Printed.{Went, MadeRoom, Printed, Number, Numbers, Signed, Signeds, Hex, Hexes, Line};
 use integer::Value;
 use libc::STDOUT_FILENO;
 
@@ -26,7 +26,7 @@ pub fn flush(buffer: &[u8; 4096], at: usize) -> usize
 // Makes room for 64 bytes at least.
 fn room(buffer: &[u8; 4096], at: usize) -> usize
     ensures { λ r. ⌜ r ≤ 4097 ⌝ }
-    ensures { λ r. ⌜ Room at r ⌝ }
+    ensures { λ r. ⌜ MadeRoom at r ⌝ }
 {
     if at <= 4_032 {
         return at;

@@ -1,9 +1,9 @@
 // What a line of the console asks: its kind, the numbers that follow its name, and where its list starts.
-// The whole line is read before anything is done. Contracts cite specs/Within.antt.
+// The whole line is read before anything is done. Contracts cite specs/InLine.antt.
 ghost use mathlib.Core.Path.{_≡_};
 ghost use Prim.Native.Nat.{_≤_};
 ghost use lib.ListN.{length};
-ghost use Rattle.request.specs.Within.{Within};
+ghost use Rattle.request.specs.InLine.{InLine};
 
 pub mod kinds;
 pub mod lists;
@@ -67,7 +67,7 @@ fn numbered(kind: u32, places: usize, list: usize, n: &[u32; 5]) -> Request
 // A line whose name is read, with what follows it from a place on.
 fn called(kind: u32, s: &[u8], from: usize) -> Request
     requires { ⌜ from ≤ length (now s) ⌝ }
-    ensures { λ r. ⌜ Within (length (now (s .entry))) r ⌝ }
+    ensures { λ r. ⌜ InLine (length (now (s .entry))) r ⌝ }
 {
     let mut n = [0u32; 5];
     let r = numbers(s, from, wanted(kind), &mut n);
@@ -81,7 +81,7 @@ fn called(kind: u32, s: &[u8], from: usize) -> Request
 
 // What a line asks, whose comment is cut off.
 pub fn parse(s: &[u8]) -> Request
-    ensures { λ r. ⌜ Within (length (now (s .entry))) r ⌝ }
+    ensures { λ r. ⌜ InLine (length (now (s .entry))) r ⌝ }
 {
     let w = word(s);
     let a = w.start;

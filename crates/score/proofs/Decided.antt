@@ -19,7 +19,7 @@ use Rattle.record.specs.Returns.{IllFormed}
 use Rattle.record.proofs.Returns.{ill, found, stands}
 use Rattle.score.specs.declared.Played.{Played}
 use Rattle.score.specs.Played.{Runs}
-use Rattle.score.specs.Reached.{header, Opens, OrderIn, LengthIn, DelayIn, LossIn, AdvanceIn, Has}
+use Rattle.score.specs.Reached.{header, HeaderOpens, OrderIn, LengthIn, DelayIn, LossIn, AdvanceIn, Has}
 use Rattle.score.specs.Reached.{Lacks, size, keeping}
 use Rattle.score.specs.Reached.{Readable, waited}
 use Rattle.score.specs.Reached.{SetsLoss, as-it-was, set, Given, present, absent, AsksChange, Delayed}
@@ -61,7 +61,7 @@ try (inl a) f g = g a
 try (inr h) f g = inr (f h)
 
 -- ---- the header opens a voice, or is refused
-pub opens-or : (s : List ℕ) → Opens s ⊎ ((n : ℕ) × HeaderRefused s n)
+pub opens-or : (s : List ℕ) → HeaderOpens s ⊎ ((n : ℕ) × HeaderRefused s n)
 opens-or s =
     try (at-most 8 (length s)) (λ f. (14, cut (omega arith))) λ w.
     try (between 1 (header s .N) orders) (λ f. (1, order w f)) λ n.

@@ -21,7 +21,7 @@ use Rattle.follow.specs.Follow.{recordCalls}
 use Rattle.follow.proofs.Waits.{wait-taken}
 use Rattle.score.specs.Run.{opening, fits, playLimits, headerLimits, allRecords}
 use Rattle.score.specs.Played.{Plays, Runs}
-use Rattle.score.specs.Reached.{Opens, size, Readable, waited, SetsLoss, MakesChange}
+use Rattle.score.specs.Reached.{HeaderOpens, size, Readable, waited, SetsLoss, MakesChange}
 use Rattle.score.specs.Ends.{HeaderRefused, cut, order, long, delay, loss, advance}
 use Rattle.score.specs.Ends.{RecordRefused, ill-formed, full, LossRefused, ChangeRefused}
 use Rattle.score.specs.Ends.{PluckRefused}
@@ -41,7 +41,7 @@ pub record Returns (s : List ℕ) (out : List ℤ) (n k w : ℕ) : Type 0 where
   pub runs : Runs s out (record { refusal = n; place = k; written = w }) after
 
 -- ---- the header
-pub opens-voice : (s : List ℕ) → Opens s → refusal (headerLimits s) ≡ 0
+pub opens-voice : (s : List ℕ) → HeaderOpens s → refusal (headerLimits s) ≡ 0
 opens-voice s o =
     sym (header-whole s (o .whole)
     (sym (refuses .opens (opening s) .accepted .1 (o .order, (o .long, (o .delay, (o .loss, o .advance)))))))

@@ -22,7 +22,7 @@ use Rattle.follow.specs.Follow.{value, result, lossCalls, changeCalls, pluckCal
 use Rattle.follow.specs.Follow.{actCalls, recordCalls}
 use Rattle.follow.proofs.Waits.{wait-taken}
 use Rattle.score.specs.Run.{opening, playLimits}
-use Rattle.score.specs.Reached.{Opens, size, Readable, waited, SetsLoss, as-it-was, set, MakesChange}
+use Rattle.score.specs.Reached.{HeaderOpens, size, Readable, waited, SetsLoss, as-it-was, set, MakesChange}
 use Rattle.score.specs.Reached.{MakesPluck, Reached, first, later}
 use Rattle.score.proofs.Playing.{Playing, begun, play-returned}
 use Rattle.score.proofs.Turns.{goes-on}
@@ -71,7 +71,7 @@ module _ (t : List ℕ) where
 
 -- ---- the run stands before record k, on the voice v, with the places left, at a byte
 pub record Standing (s : List ℕ) (out : List ℤ) (k : ℕ) (v : State) (left at : ℕ) : Type 0 where
-  pub opens : Opens s
+  pub opens : HeaderOpens s
   pub few : left ≤ length out
   pub within : at ≤ length s
   pub now : List ℤ

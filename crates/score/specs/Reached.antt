@@ -42,7 +42,7 @@ abbrev pub AdvanceIn : List ℕ → Type 0
 AdvanceIn s = Between 0 (header s .Na) 64
 
 -- it is whole, and opens a voice
-pub record Opens (s : List ℕ) : Type 0 where
+pub record HeaderOpens (s : List ℕ) : Type 0 where
   pub whole : 8 ≤ length s
   pub order : OrderIn s
   pub long : LengthIn s
@@ -116,7 +116,7 @@ pub data MakesPluck (t : List ℕ) (v u : State) : Type 0 where
 
 -- ---- record k of the score s is reached, on this voice, with this many of the places left, at this byte
 pub data Reached (s : List ℕ) (places : ℕ) : ℕ → State → ℕ → ℕ → Type 0 where
-  first : Opens s → Reached s places 0 (fresh (header s)) places 8
+  first : HeaderOpens s → Reached s places 0 (fresh (header s)) places 8
   later : {k : ℕ} {v a b u : State} {left at : ℕ} → Reached s places k v left at
       → Readable (drop at s) left → SetsLoss (drop at s) (waited (drop at s) v) a
       → MakesChange (drop at s) a b → MakesPluck (drop at s) b u

@@ -6,10 +6,10 @@ use lib.IntN.{pos}
 use Rattle.rule.specs.Voice.{noise, spent}
 use Rattle.voice.specs.declared.Pluck.{Pluck}
 use Rattle.voice.specs.Valid.{Plucked}
-use Rattle.step.specs.Sample.{Sounds}
+use Rattle.step.specs.Sample.{PluckSounds}
 
 pub sounds-none : {p : Pluck} → Plucked p → p .left ≡ 0
-    → Sounds p (record { noise = record { n = pos 0 }; rest = p })
+    → PluckSounds p (record { noise = record { n = pos 0 }; rest = p })
 unfolding noise spent
 sounds-none k e =
     let z = k .none-left e in

@@ -22,7 +22,7 @@ use Rattle.step.specs.declared.sound.Sounded.{Sounded}
 use Rattle.step.specs.declared.feedback.Circulated.{Circulated}
 use Rattle.voice.specs.Struct.{waitingOf, voiceOf}
 use Rattle.voice.specs.Valid.{Waiting-valid, Fit, Valid}
-use Rattle.step.specs.Sample.{Reads, previewed, Sounds, Settles, Circulates, Steps}
+use Rattle.step.specs.Sample.{Reads, previewed, PluckSounds, Settles, Circulates, Steps}
 
 -- ---- the length that the eliminator reads at
 previewed-within : (a : ℕ) (w : Waiting) (L : ℕ) → Waiting-valid a w → 1 ≤ L → L ≤ 2048
@@ -60,7 +60,7 @@ heardOf h r p = record {
 }
 
 module _ {h : Head} {l : List ℤ} (v : Valid h l) {x : ℤ} {p : Sounded} {r : Circulated} {k : List ℤ}
-    (o : Sounds (h .pluck) p)
+    (o : PluckSounds (h .pluck) p)
     (c : Circulates (h .filter) (h .loss) (h .last .n) (h .at) l x (p .noise .n) r k) where
   abbrev q : ℕ → ℤ
   q = back (ring (h .at) l)

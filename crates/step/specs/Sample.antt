@@ -43,7 +43,7 @@ pub record Hears (f : Filter) (x : ℤ) (r : Heard) : Type 0 where
   pub moved : Moved f x (r .filter)
 
 -- a pluck that gave its noise sample
-pub record Sounds (p : Pluck) (r : Sounded) : Type 0 where
+pub record PluckSounds (p : Pluck) (r : Sounded) : Type 0 where
   pub value : r .noise .n ≡ noise (pluckOf p)
   pub small : natAbs (r .noise .n) ≤ 2 ^ 23
   pub rest : pluckOf (r .rest) ≡ spent (pluckOf p)

@@ -4,7 +4,7 @@ ghost use mathlib.Core.Path.{_≡_};
 ghost use Prim.Native.Nat.{_≤_, _^_};
 ghost use lib.IntN.{pos, natAbs, _*ℤ_};
 ghost use Rattle.voice.specs.Valid.{Plucked};
-ghost use Rattle.step.specs.Sample.{Sounds};
+ghost use Rattle.step.specs.Sample.{PluckSounds};
 use integer::Value;
 use noise::Drawn;
 use noise::draw;
@@ -28,7 +28,7 @@ fn scaled(amplitude: u32, d: Drawn) -> Value
 // The noise sample of a pluck, 0 where none is sounding, and what is left of the pluck.
 pub fn sound(p: Pluck) -> Sounded
     requires { ⌜ Plucked p ⌝ }
-    ensures { λ r. ⌜ Sounds p r ⌝ }
+    ensures { λ r. ⌜ PluckSounds p r ⌝ }
 {
     if p.left == 0 {
         return Sounded {

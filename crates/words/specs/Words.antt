@@ -31,7 +31,7 @@ pub record Stops (s : List ℕ) (start r : ℕ) : Type 0 where
   pub here : r < length s → blank (getD s r 0) ≡ true
 
 -- the first word of s is its bytes from start up to end; it is empty only where s has no word
-pub record First (s : List ℕ) (start end : ℕ) : Type 0 where
+pub record FirstWord (s : List ℕ) (start end : ℕ) : Type 0 where
   pub starts : Starts s start
   pub stops : Stops s start end
   pub some : start < length s → start < end

@@ -3,7 +3,7 @@
 ghost use mathlib.Core.Path.{_≡_};
 ghost use Prim.Native.Nat.{_≤_};
 ghost use lib.ListN.{length};
-ghost use Rattle.words.specs.Words.{blank, Before, Starts, Stops, First};
+ghost use Rattle.words.specs.Words.{blank, Before, Starts, Stops, FirstWord};
 
 pub mod pieces;
 
@@ -68,7 +68,7 @@ fn word_end(s: &[u8], start: usize) -> usize
 
 // The first word of a text.
 pub fn word(s: &[u8]) -> Place
-    ensures { λ r. ⌜ First (now (s .entry)) (r .start) (r .end) ⌝ }
+    ensures { λ r. ⌜ FirstWord (now (s .entry)) (r .start) (r .end) ⌝ }
 {
     let start = blanks(s);
     let end = word_end(s, start);

@@ -1,135 +1,21 @@
--- `score::play` meets its contract: the invariant is `Playing`, with a voice that stays valid.
+-- `score::play` meets its contract: each turn reads a record and follows it. Proof/Record.antt has the invariant.
 -- Assumes nothing.
-use mathlib.Core.Path.{_≡_, refl, sym, ap, subst, _∙_}
-use mathlib.Core.List.{List, [], _∷_, _++_}
-use Prim.Native.Nat.{ℕ, _+_, _-_, _≤_, _<_}
+mod Record
+use mathlib.Core.Path.{_≡_, refl, sym, subst, _∙_}
+use mathlib.Core.List.{List}
+use Prim.Native.Nat.{ℕ, _+_, _-_, _<_}
 use native.Mathlib.Omega.{arith}
 use borrow.Author.Needs.{needs}
 use borrow.Rule.Slice.PartMut.{putMid}
-use lib.IntN.{ℤ}
 use lib.ListN.{length}
-use Rattle.refusal.specs.Limits.{refusal}
-use Rattle.rule.specs.State.{State, from, puts}
 use Rattle.voice.specs.Struct.{stateOf}
-use Rattle.voice.specs.Valid.{Valid}
-use Rattle.record.specs.Record.{recordLimits, fields}
-use Rattle.follow.specs.Follow.{value, result, recordCalls}
-use Rattle.score.specs.Run.{fits, playLimits}
-use Rattle.score.proofs.Playing.{Playing, begun, read-number, has-room, all-played, refused}
-use Rattle.score.proofs.Turns.{part-length, still-long, stopped, shorter, goes-on}
+use Rattle.score.proofs.Playing.{Playing, begun, all-played, refused}
+use Rattle.score.proofs.Turns.{part-length, stopped, shorter, goes-on}
+use Rattle.score.proofs.play.Proof.Record.{Inv-loop, μ-loop, bytes, opened, lent, voice, left, index}
+use Rattle.score.proofs.play.Proof.Record.{done, output, playing, some, number-is, taken, room, wait}
+use Rattle.score.proofs.play.Proof.Record.{place, samples, out-is, ends-at, result-is, state-is, same}
 use Rattle.score.proofs.play.Statement.{statement}
 use Rattle.score.proofs.play.Tie as tie
-
-abbrev Inv-loop : tie.InvT-loop
-Inv-loop line₀ head₀ records output₀ t₀ index₀ done₀ r₀ line head output t index done r =
-    Playing records (stateOf head₀ line₀) output₀ (stateOf head line) t index done output
-    × Valid head line
-    × (length output ≡ length output₀)
-
-abbrev μ-loop : tie.MeasureT-loop
-μ-loop line₀ head₀ records output₀ t₀ index₀ done₀ r₀ line head output t index done r = length t
-
--- ---- before a record, once its number is known
-module _ (c : tie.After-refused Inv-loop μ-loop) where
-  abbrev bytes : List ℕ
-  bytes = c .before .before .before .before .before .before .before .args .records .now
-
-  abbrev opened : State
-  opened = stateOf (c .before .before .before .before .before .before .before .args .head)
-      (c .before .before .before .before .before .before .before .args .line .now)
-
-  abbrev lent : List ℤ
-  lent = c .before .before .before .before .before .before .before .args .output .now
-
-  abbrev voice : State
-  voice = stateOf (c .before .before .before .before .before .loop .head)
-      (c .before .before .before .before .before .loop .line)
-
-  abbrev left : List ℕ
-  left = c .before .before .before .before .before .loop .t .now
-
-  abbrev index : ℕ
-  index = c .before .before .before .before .before .loop .index
-
-  abbrev done : ℕ
-  done = c .before .before .before .before .before .loop .done
-
-  abbrev output : List ℤ
-  output = c .before .before .before .before .before .loop .output
-
-  playing : Playing bytes opened lent voice left index done output
-  playing = c .before .before .before .before .before .loop .inv .0
-
-  some : 0 < length left
-  some = c .before .before .before .before .loop-test .taken
-
-  read : c .before .before .read-record .last .1 .0 ≡ fields left
-  read = c .before .before .read-record .ensures .0
-
-  number-is : c .refused .result ≡ refusal (playLimits left (length lent - done))
-  number-is =
-      c .refused .ensures (recordLimits left) tt (read-number left read)
-      ∙ ap (λ (l : List ℕ). refusal (recordLimits left ++ fits l (length output - done) ∷ [])) read
-      ∙ ap (λ (n : ℕ). refusal (playLimits left (n - done)))
-      (c .before .before .before .before .before .loop .inv .2)
-
--- ---- a record that is not refused
-module _ (c : tie.After-as-length Inv-loop μ-loop) where
-  wait-is : c .as-length .result ≡ value (fields (left (c .before .before))) 0
-  wait-is = c .as-length .ensures ∙ ap (λ (l : List ℕ). value l 0) (read (c .before .before))
-
-  taken : refusal
-      (playLimits (left (c .before .before)) (length (lent (c .before .before)) - done (c .before .before)))
-      ≡ 0
-  taken = sym (number-is (c .before .before)) ∙ c .before .if1 .left
-
-  room : done (c .before .before) + c .as-length .result ≤ length (output (c .before .before))
-  room =
-      let r = c .before .before in omega (
-        arith,
-        wait-is,
-        has-room (left r) (length (lent r) - done r) taken .1,
-        playing r .within,
-        r .before .before .before .before .before .loop .inv .2,
-      )
-
--- ---- a record that was followed
-module _ (c : tie.After-follow Inv-loop μ-loop) where
-  abbrev wait : tie.After-as-length Inv-loop μ-loop
-  wait = c .before .before .before .before
-
-  abbrev place : tie.After-refused Inv-loop μ-loop
-  place = c .before .before .before .before .before .before
-
-  abbrev samples : List ℤ
-  samples = c .follow .last .1 .1 .1 .0
-
-  out-is : samples ≡ puts (voice place) (recordCalls (fields (left place)) (voice place))
-  out-is = c .follow .ensures .1 ∙ ap (λ (r : List ℕ). puts (voice place) (recordCalls r (voice place)))
-      (read place)
-
-  ends-at : done place + wait .as-length .result ≡ done place + value (fields (left place)) 0
-  ends-at = ap (λ (n : ℕ). done place + n) (wait-is wait)
-
-  result-is : c .follow .result .refusal
-      ≡ result (voice place) (recordCalls (fields (left place)) (voice place))
-  result-is =
-      c .follow .ensures .0 .number
-      ∙ ap (λ (r : List ℕ). result (voice place) (recordCalls r (voice place))) (read place)
-
-  state-is : stateOf (c .follow .result .head) (c .follow .last .0)
-      ≡ from (voice place) (recordCalls (fields (left place)) (voice place))
-  state-is =
-      c .follow .ensures .0 .state
-      ∙ ap (λ (r : List ℕ). from (voice place) (recordCalls r (voice place))) (read place)
-
-  same : length (putMid (done place) (done place + wait .as-length .result - done place) (output place)
-      samples)
-      ≡ length (lent place)
-  same =
-      still-long (bytes place) (opened place) (lent place) (voice place) (left place) (index place)
-      (done place)
-      (output place) (playing place) (some place) (taken wait) samples out-is ends-at
 
 loop-holds : tie.Need-loop-holds Inv-loop μ-loop
 loop-holds c =

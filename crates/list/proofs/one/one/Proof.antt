@@ -76,16 +76,17 @@ returns c =
           ∙ ap (λ (k : Call). over (put (stateOf (a .head) (a .line .now)) k) (a .output .now)) same,
     )
 
-set-requires : tie.Need-set-requires
-set-requires c κs = search needs
+call-requires : tie.Need-call-requires
+call-requires c κs = search needs
 
 returns-2 : tie.Need-returns-2
 returns-2 c =
-    let e = c .before .before in
+    let d = c .before in
+    let e = d .before .before in
     let s = e .before .before in
     let a = s .args in
     let w = a .w in (
-      c .set .ensures (a .input .now),
+      d .call .ensures (a .input .now) .made,
       over-still (stateOf (a .head) (a .line .now)) (w .kind) (w .a) (w .b) (w .c) (a .input .now)
           (a .output .now) (omega (arith, e .if1 .left)) (s .pre .1),
     )
@@ -102,5 +103,5 @@ one-spec =
     block-requires
     same-length
     returns
-    set-requires
+    call-requires
     returns-2)

@@ -3,6 +3,6 @@
 use Prim.Native.Nat.{ℕ, _≤_}
 use Rattle.request.specs.declared.Request.{Request}
 
-pub record Within (n : ℕ) (r : Request) : Type 0 where
+pub record InLine (n : ℕ) (r : Request) : Type 0 where
   pub places : r .places ≤ 16384
   pub list : r .list ≤ n
