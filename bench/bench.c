@@ -84,7 +84,13 @@ static int again(Row *r)
         make_list(r->order, r->to, r->change, r->wait, SAMPLES);
     else
         score_length = make_score(score, r->order, r->change, r->wait, SAMPLES);
-    int same = best_of(listed ? perform : run, r->best, &p);
+    double best[2] = { 0, 0 };
+    int same = best_of(listed ? perform : run, best, &p);
+    for (int k = 0; k < 2; k++)
+        r->best[k] = r->best[k] == 0 || best[k] < r->best[k] ? best[k] : r->best[k];
+    double ratio = best[0] / best[1];
+    r->low = r->low == 0 || ratio < r->low ? ratio : r->low;
+    r->high = ratio > r->high ? ratio : r->high;
     r->written = p.written;
     r->stack = stack_of(listed ? perform_once : run_once);
     same &= p.refusal == JIVASZTE_DONE && (p.place == 0 || !listed);

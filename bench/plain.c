@@ -1,8 +1,15 @@
-/* The samples of the voice in plain C, in the fastest form found: divisions by constants, the state in locals, a
-   loop for each order in force, for each order that waits and for each part that can be absent, and stretches of samples
-   in which neither the ring ends nor a pluck nor a waiting change, so that the loops have no test but their count and the
-   clips. */
+/* The samples of the voice in plain C, in the fastest form found: what is between one w and the next is one product, one
+   subtraction and one shift, all else is carried or summed ahead; the state in locals, a loop for each order and for each
+   part that can be absent, and stretches of samples in which neither the ring ends nor a pluck nor a waiting change, so
+   that the loops have no test but their count and the clips. */
 #include "plain.h"
+
+/* Where two forms were found, the faster one by each compiler. */
+#ifdef __clang__
+enum { BY_CLANG = 1 };
+#else
+enum { BY_CLANG = 0 };
+#endif
 
 /* One test that seldom holds, which was faster than two conditional moves. */
 static inline int64_t clip(int64_t u)
@@ -10,6 +17,14 @@ static inline int64_t clip(int64_t u)
     if (__builtin_expect((uint64_t)(u + MOST) > 2u * MOST, 0))
         return u > 0 ? MOST : -MOST;
     return u;
+}
+
+/* f less (q + m) / 65,536, which is cut toward zero: of two numbers, each of one product, the one that the sum's sign
+   tells. */
+static inline int64_t less(int64_t f, int64_t q, int64_t m)
+{
+    int64_t p = 65536 * f - q, cut = p - m, up = p + 65535 - m;
+    return (q + m < 0 ? cut : up) >> 16;
 }
 
 static inline uint32_t least(uint32_t a, uint32_t b) { return a < b ? a : b; }
@@ -29,18 +44,37 @@ stretch(Voice *v, const int32_t *restrict in, int32_t *restrict out, uint32_t n,
     int32_t *to = v->line + v->at;
     const int32_t *from = v->line + place(v->at, v->filter.length);
     const int32_t *ahead = v->line + (coming ? place(v->at, v->next.length) : 0);
+    /* In order 1 the quotient's remainder goes by the sign of v1, so that it does not wait for the product. */
+    const int64_t below = a1 < 0 ? 65535 : 0, above = a1 < 0 ? 0 : 65535;
+    /* The products that the next samples take again. */
+    int64_t m = order == 1 && BY_CLANG ? a1 * v1 / 65536 : a1 * v1, m2 = a1 * v2, t = a2 * v1, u = a3 * v1, u2 = a3 * v2;
+    int64_t q = order == 2 ? a2 * v2 : a2 * v2 + a3 * v3;
     for (uint32_t i = 0; i < n; i++) {
         int64_t w, y, s;
-        if (order == 1) {
-            w = from[i] - a1 * v1 / 65536;
-            y = clip(v1 + a1 * w / 65536);
+        if (order == 1 && BY_CLANG) {
+            w = from[i] - m;
+            m = a1 * w / 65536;
+            y = clip(v1 + m);
+        } else if (order == 1) {
+            w = (65536 * (int64_t)from[i] + (v1 < 0 ? below : above) - m) >> 16;
+            m = a1 * w;
+            y = clip(v1 + m / 65536);
         } else if (order == 2) {
-            w = from[i] - (a1 * v1 + a2 * v2) / 65536;
-            y = clip(v2 + (a2 * w + a1 * v1) / 65536);
+            w = less(from[i], q, m);
+            q = t;
+            t = a2 * w;
+            y = clip(v2 + (t + m) / 65536);
+            m = a1 * w;
             v2 = v1;
         } else {
-            w = from[i] - (a1 * v1 + (a2 * v2 + a3 * v3)) / 65536;
-            y = clip(v3 + (a3 * w + (a2 * v1 + a1 * v2)) / 65536);
+            w = BY_CLANG ? less(from[i], q, m) : from[i] - (m + q) / 65536;
+            q = t + u2;
+            u2 = u;
+            u = a3 * w;
+            y = clip(v3 + (u + (t + m2)) / 65536);
+            m2 = m;
+            m = a1 * w;
+            t = a2 * w;
             v3 = v2;
             v2 = v1;
         }
@@ -60,7 +94,7 @@ stretch(Voice *v, const int32_t *restrict in, int32_t *restrict out, uint32_t n,
             s += amplitude * ((int64_t)(noise >> 16) - 32768);
         }
         last = y;
-        to[i] = clip(s);
+        to[i] = feeds || plucks ? clip(s) : s;
         out[i] = y;
     }
     v->filter.v1 = v1;

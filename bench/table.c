@@ -27,9 +27,9 @@ static void print_row(const Row *r)
     printf("| %u", r->order);
     if (r->to != r->order)
         printf(", %u", r->to);
-    printf(" | %s | %u | %.0f | %.0f | %.2f | %zu | %s |\n", changes[r->change], r->wait,
-           r->written / r->best[0] / 1e6, r->written / r->best[1] / 1e6, r->best[0] / r->best[1], r->stack,
-           r->agree ? "yes" : "NO");
+    printf(" | %s | %u | %.0f | %.0f | %.2f | %.2f to %.2f | %zu | %s |\n", changes[r->change], r->wait,
+           r->written / r->best[0] / 1e6, r->written / r->best[1] / 1e6, r->best[0] / r->best[1], r->low, r->high,
+           r->stack, r->agree ? "yes" : "NO");
 }
 
 /* What a sample, a record and a change with its eliminator cost, in nanoseconds, from the rows of one order. */
@@ -55,8 +55,9 @@ static double least(const Row *from, const Row *to, int more)
 
 void print_rows(const Row *rows)
 {
-    printf("| order | changes | wait | C, million samples a second | proved | ratio | bytes of stack | all agree |\n");
-    printf("|---|---|---|---|---|---|---|---|\n");
+    printf("| order | changes | wait | C, million samples a second | proved | ratio | in the rounds | bytes of stack | all "
+           "agree |\n");
+    printf("|---|---|---|---|---|---|---|---|---|\n");
     for (int i = 0; i < ROWS; i++)
         print_row(&rows[i]);
     printf("\nleast ratio at waits of 64: %.3f; of 1,024 and more: %.3f; with an asked change: %.3f; with changes of the "

@@ -24,6 +24,13 @@ pub struct Filtered {
     pub state: State,
 }
 
+// y is the output before it is clipped, state the next state, and ahead the sum that its w takes.
+pub struct Taken {
+    pub y: Value,
+    pub state: State,
+    pub ahead: Value,
+}
+
 // vN.
 fn oldest(order: u32, v: State) -> Value
     requires { ⌜ (1 ≤ order) × (order ≤ orders) ⌝ }
@@ -87,7 +94,7 @@ fn shifted(order: u32, v: State, w: Value) -> State
 }
 
 // R(A1·v1 + .. + AN·vN); the newest number of the state is added last.
-fn weighed(order: u32, c: Coefficients, v: State) -> Value
+pub fn weighed(order: u32, c: Coefficients, v: State) -> Value
     requires { ⌜ (1 ≤ order) × (order ≤ orders) × (norm (taps order c) ≤ 32768)
         × Within (2 * M) (held order v) ⌝ }
     ensures { λ r. ⌜ r .n ≡ R (dot (taps order c) (held order v)) ⌝ }
@@ -105,12 +112,11 @@ fn weighed(order: u32, c: Coefficients, v: State) -> Value
     })
 }
 
-// w.
-fn inner(order: u32, c: Coefficients, v: State, f: Value) -> Value
-    requires { ⌜ Fed order c v (f .n) ⌝ }
-    ensures { λ r. ⌜ r .n ≡ Inner (taps order c) (held order v) (f .n) ⌝ }
+// w, where r is R(A1·v1 + .. + AN·vN).
+fn inner(order: u32, c: Coefficients, v: State, r: Value, f: Value) -> Value
+    requires { ⌜ Fed order c v (f .n) × (r .n ≡ R (dot (taps order c) (held order v))) ⌝ }
+    ensures { λ w. ⌜ w .n ≡ Inner (taps order c) (held order v) (f .n) ⌝ }
 {
-    let r = weighed(order, c, v);
     Value { n: f.n - r.n }
 }
 
@@ -119,19 +125,60 @@ pub fn eliminate(order: u32, c: Coefficients, v: State, f: Value) -> State
     requires { ⌜ Fed order c v (f .n) ⌝ }
     ensures { λ r. ⌜ r ≡ stored (next (taps order c) (held order v) (f .n)) ⌝ }
 {
-    let w = inner(order, c, v, f);
+    let w = inner(order, c, v, weighed(order, c, v), f);
     shifted(order, v, w)
 }
 
-// The output, where s is the next state.
-fn output(order: u32, c: Coefficients, v: State, s: State) -> Value
-    requires { ⌜ Fed order c s (pos 0) × Within (2 * M) (held order v) ⌝ }
-    ensures { λ r. ⌜ r .n
-        ≡ Clip (final (pos 0) (held order v) +ℤ R (dot (reverse (taps order c)) (held order s))) ⌝ }
+// R(AN·w + .. + A1·v(N−1)), where s is the next state and r the sum that its w takes, which is the same in order 1.
+fn reversed(order: u32, c: Coefficients, s: State, r: Value) -> Value
+    requires { ⌜ Fed order c s (pos 0) × (r .n ≡ R (dot (taps order c) (held order s))) ⌝ }
+    ensures { λ z. ⌜ z .n ≡ R (dot (reverse (taps order c)) (held order s)) ⌝ }
 {
-    let r = weighed(order, turned(order, c), s);
+    if order == 1 {
+        return r;
+    }
+    weighed(order, turned(order, c), s)
+}
+
+// The output before it is clipped, where s is the next state and r the sum that its w takes.
+fn output(order: u32, c: Coefficients, v: State, s: State, r: Value) -> Value
+    requires { ⌜ Fed order c s (pos 0) × Within (2 * M) (held order v)
+        × (r .n ≡ R (dot (taps order c) (held order s))) ⌝ }
+    ensures { λ y. ⌜ y .n
+        ≡ final (pos 0) (held order v) +ℤ R (dot (reverse (taps order c)) (held order s)) ⌝ }
+{
+    let z = reversed(order, c, s, r);
     let x = oldest(order, v);
-    clip(Value { n: x.n + r.n })
+    Value { n: x.n + z.n }
+}
+
+// R(A1·v1 + .. + AN·vN), where r is that too. In order 2 it is faster made anew: the output takes A1·v1 as well.
+fn summed(order: u32, c: Coefficients, v: State, r: Value) -> Value
+    requires { ⌜ Fed order c v (pos 0) × (r .n ≡ R (dot (taps order c) (held order v))) ⌝ }
+    ensures { λ z. ⌜ z .n ≡ R (dot (taps order c) (held order v)) ⌝ }
+{
+    if order == 2 {
+        return weighed(order, c, v);
+    }
+    r
+}
+
+// One sample of the filter, where r is R(A1·v1 + .. + AN·vN): a loop carries it on from sample to sample.
+pub fn take(order: u32, c: Coefficients, v: State, r: Value, f: Value) -> Taken
+    requires { ⌜ Fed order c v (f .n) × (r .n ≡ R (dot (taps order c) (held order v))) ⌝ }
+    ensures { λ t. ⌜ (Clip (t .y .n) ≡ out (taps order c) (held order v) (f .n))
+        × (t .state ≡ stored (next (taps order c) (held order v) (f .n)))
+        × (t .ahead .n ≡ R (dot (taps order c) (held order (t .state)))) ⌝ }
+{
+    let w = inner(order, c, v, summed(order, c, v, r), f);
+    let s = shifted(order, v, w);
+    let ahead = weighed(order, c, s);
+    let y = output(order, c, v, s, ahead);
+    Taken {
+        y: y,
+        state: s,
+        ahead: ahead,
+    }
 }
 
 // One sample of the filter: the output and the next state.
@@ -140,7 +187,10 @@ pub fn allpass(order: u32, c: Coefficients, v: State, f: Value) -> Filtered
     ensures { λ r. ⌜ (r .y .n ≡ out (taps order c) (held order v) (f .n))
         × (r .state ≡ stored (next (taps order c) (held order v) (f .n))) ⌝ }
 {
-    let s = eliminate(order, c, v, f);
-    let y = output(order, c, v, s);
-    Filtered { y: y, state: s }
+    let t = take(order, c, v, weighed(order, c, v), f);
+    let s = t.state;
+    Filtered {
+        y: clip(t.y),
+        state: s,
+    }
 }

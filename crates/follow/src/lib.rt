@@ -109,6 +109,24 @@ fn act(line: &[i32; 2112], head: Head, r: &[u32; 9]) -> Answer
     pluck(c.head, r)
 }
 
+// The same, at once where the record has nothing to set.
+fn acts(line: &[i32; 2112], head: Head, r: &[u32; 9]) -> Answer
+    requires { ⌜ Valid head (now line) ⌝ }
+    ensures { λ a. ⌜ Does head (now (line .entry))
+        (actCalls (now (r .entry)) (stateOf head (now (line .entry)))) a (now (line .entry)) ⌝ }
+{
+    let map = r[MAP];
+    let changes = bit(map, HAS_LENGTH) + bit(map, HAS_DELAY);
+    let others = bit(map, HAS_LOSS) + bit(map, HAS_AMPLITUDE);
+    if changes + others == 0 {
+        return Answer {
+            refusal: 0,
+            head: head,
+        };
+    }
+    act(line, head, r)
+}
+
 // A record: its wait, over a buffer as long, and then what it sets.
 pub fn follow(line: &mut [i32; 2112], head: Head, r: &[u32; 9], buffer: &mut [i32]) -> Answer
     requires { ⌜ Valid head (now line) × (length (now buffer) ≡ value (now r) 0) ⌝ }
@@ -118,7 +136,6 @@ pub fn follow(line: &mut [i32; 2112], head: Head, r: &[u32; 9], buffer: &mut [i3
         ≡ puts (stateOf head (now (line .entry)))
         (recordCalls (now (r .entry)) (stateOf head (now (line .entry)))) ⌝ }
 {
-    samples::clear(buffer);
-    let h = render::render(line, head, buffer);
-    act(line, h, r)
+    let h = render::silent(line, head, buffer);
+    acts(line, h, r)
 }

@@ -6,7 +6,7 @@ ghost use Prim.Native.Nat.{_+_, _-_, _%_, _≤_, _<_};
 ghost use lib.IntN.{pos, natAbs};
 ghost use lib.ListN.{getD, take};
 ghost use Rattle.integer.specs.Rounding.{M};
-ghost use Rattle.line.specs.Ring.{ring};
+ghost use Rattle.line.specs.Ring.{ring, Apart};
 use integer::Value;
 
 // The sample written k steps before the one that goes to place at: s(n − k).
@@ -18,11 +18,35 @@ pub fn read(line: &[i32; 2112], at: usize, k: usize) -> Value
 }
 
 // The place that is k steps before at, round the ring.
-fn place(at: usize, k: usize) -> usize
+pub fn place(at: usize, k: usize) -> usize
     requires { ⌜ (at < 2112) × (1 ≤ k) × (k ≤ 2112) ⌝ }
     ensures { λ r. ⌜ r ≡ (at + 2112 - k) % 2112 ⌝ }
 {
     if k <= at { at - k } else { at + 2_112 - k }
+}
+
+// How many of n samples can be written from place at on, and read k steps before them, until one of the two
+// places comes to the ring's end.
+pub fn room(at: usize, k: usize, n: usize) -> usize
+    requires { ⌜ (at < 2112) × (1 ≤ k) × (k ≤ 2112) ⌝ }
+    ensures { λ r. ⌜ (r ≤ n) × Apart at k r ⌝ }
+{
+    let p = place(at, k);
+    least(n, least(2_112 - at, 2_112 - p))
+}
+
+fn least(a: usize, b: usize) -> usize
+    ensures { λ r. ⌜ (r ≤ a) × (r ≤ b) ⌝ }
+{
+    if a < b { a } else { b }
+}
+
+// A place, round the ring.
+pub fn round(at: usize) -> usize
+    requires { ⌜ at ≤ 2112 ⌝ }
+    ensures { λ r. ⌜ r ≡ at % 2112 ⌝ }
+{
+    if at == 2_112 { 0 } else { at }
 }
 
 // Puts a sample at place at, over the oldest, and returns the place of the next.

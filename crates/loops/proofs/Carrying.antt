@@ -6,22 +6,17 @@ use Prim.Native.Nat.{ℕ, suc, _<_, min}
 use native.Mathlib.Omega.{arith}
 use lib.IntN.{ℤ, pos}
 use Rattle.integer.specs.declared.Value.{Value}
-use Rattle.thiran.specs.declared.formula.Coefficients.{Coefficients}
-use Rattle.thiran.specs.Coefficients.{coefficients}
-use Rattle.thiran.specs.Answers.{padded}
-use Rattle.allpass.specs.declared.State.{State}
 use Rattle.line.specs.Ring.{ring}
 use Rattle.rule.specs.Voice.{announced}
 use Rattle.rule.specs.State.{back}
 use Rattle.rule.proofs.Steps.{commits-not}
-use Rattle.voice.specs.declared.Tuning.{Tuning}
 use Rattle.voice.specs.declared.Filter.{Filter}
 use Rattle.voice.specs.declared.Kind.{Kind}
 use Rattle.voice.specs.declared.Waiting.{Waiting}
 use Rattle.voice.specs.declared.Waiting.the-variants.{Idle, Prepared}
 use Rattle.voice.specs.declared.Head.{Head}
 use Rattle.voice.specs.Struct.{kindOf, withOf, settledOf}
-use Rattle.voice.specs.Valid.{Tuned, Valid}
+use Rattle.voice.specs.Valid.{Valid}
 use Rattle.step.specs.declared.feedback.Circulated.{Circulated}
 use Rattle.step.specs.Sample.{Moved, Settles, Circulates, Steps}
 use Rattle.step.proofs.Silent.{sounds-none}
@@ -30,22 +25,6 @@ use Rattle.step.proofs.Steps.{heard-fit, steps}
 use Rattle.loops.specs.Carried.{anewOf, carriedOf}
 
 -- ---- filters
--- a filter of the same tuning is f with its state
-pub as-anew : {N : ℕ} (f : Filter) {g : Filter} {v : State} → Tuned (anewOf N f v) → Tuned g
-    → g .tuning ≡ anewOf N f v .tuning → g ≡ anewOf N f (g .state)
-as-anew {N} f {g} t k e =
-    let same =
-    k .coefficients-are
-    ∙ ap (λ (t : Tuning). padded (coefficients (t .order) (t .delay))) e
-    ∙ sym (t .coefficients-are) in
-    ap (λ (t : Tuning). record { tuning = t; coefficients = g .coefficients; state = g .state }) e
-    ∙ ap (λ (c : Coefficients). record {
-      tuning = anewOf N f (g .state) .tuning;
-      coefficients = c;
-      state = g .state;
-    })
-    same
-
 pub anew-self : {N : ℕ} (f : Filter) → N ≡ f .tuning .order → anewOf N f (f .state) ≡ f
 anew-self f e = rw e
 

@@ -1,3 +1,5 @@
 pub mod Carrying
+pub mod Fed
 pub mod Passes
 pub mod Rendered
+pub mod Taking

@@ -1,9 +1,8 @@
--- What a loop over samples keeps from pass to pass: its start, one sample more, and its end.
+-- What a loop over samples keeps from pass to pass: its start, and one sample more.
 -- Assumes nothing.
 use mathlib.Core.Path.{_≡_, sym, ap, subst, _∙_}
 use mathlib.Core.List.{List}
 use Prim.Native.Nat.{ℕ, _+_, _≤_, _<_}
-use native.Mathlib.Omega.{arith}
 use lib.IntN.{ℤ, pos, natAbs}
 use lib.ListN.{length, getD, set}
 use Rattle.integer.specs.Rounding.{M}
@@ -42,9 +41,3 @@ module _ {xs : List ℤ} {v : State} {b : List ℤ} {h : Head} {l : List ℤ} {i
         let p = rendered xs v b (stateOf h l) i (t .0) o w (r .y .n) n (s .y) in
         subst (λ (k : Head). Passed xs v c k m (i + 1)) j
         (subst (λ (c : List ℤ). Rendered xs v c w (i + 1)) (sym f) p, s .valid)
-
-  pub ended : {k : Head} → length b ≤ i → k ≡ h → Passed xs v b k l (length xs)
-  ended o e =
-      let n : i ≡ length xs = omega (arith, t .0 .long, t .0 .within) in
-      subst (λ (k : Head). Passed xs v b k l (length xs)) (sym e)
-      (subst (λ (i : ℕ). Passed xs v b h l i) n t)

@@ -1,7 +1,7 @@
 -- What is kept of a voice in a loop over its samples, as the heads that it makes.
 -- Definitions alone. Assumes nothing.
 use mathlib.Core.Path.{_≡_}
-use Prim.Native.Nat.{ℕ, _≤_}
+use Prim.Native.Nat.{ℕ, _+_, _%_, _≤_}
 use Rattle.integer.specs.declared.Value.{Value}
 use Rattle.allpass.specs.declared.State.{State}
 use Rattle.voice.specs.declared.Filter.{Filter}
@@ -12,6 +12,7 @@ use Rattle.voice.specs.declared.Waiting.{Waiting}
 use Rattle.voice.specs.declared.Waiting.the-variants.{Idle, Prepared}
 use Rattle.voice.specs.declared.Head.{Head}
 use Rattle.voice.specs.Struct.{kindOf}
+use Rattle.loops.specs.declared.Ran.{Ran}
 
 -- f with another state, in an order that is its own
 abbrev pub anewOf : ℕ → Filter → State → Filter
@@ -32,6 +33,11 @@ carriedOf h f y at = record {
   pluck = h .pluck;
   at = at;
 }
+
+-- the head that a loop leaves of h; what waits is told beside it
+abbrev pub ranOf : Head → Ran → Head
+ranOf h r =
+    carriedOf h (anewOf (h .filter .tuning .order) (h .filter) (r .state)) (r .last) ((h .at + r .done) % 2112)
 
 -- the kind of the change that waits, where one does
 abbrev pub kindIn : Waiting → Kind

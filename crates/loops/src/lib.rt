@@ -1,156 +1,82 @@
 // The loops over a block's samples while no pluck sounds: with nothing waiting, and with a change that waits.
-// The state is in locals, a loop is compiled for each order, and each sample is made by crate step.
+// Each renders as many samples of a stretch as it can, and tells how many are done.
 ghost use mathlib.Core.Path.{_≡_};
-ghost use Prim.Native.Nat.{_+_, _≤_, min};
+ghost use Prim.Native.Nat.{_+_, _≤_, _<_, min};
 ghost use lib.ListN.{length};
 ghost use Rattle.integer.specs.Rounding.{M};
 ghost use Rattle.samples.specs.Samples.{loudest};
+ghost use Rattle.line.specs.Ring.{Apart};
 ghost use Rattle.voice.specs.declared.Waiting.the-variants.{Idle, Prepared};
-ghost use Rattle.voice.specs.Struct.{stateOf, settledOf};
 ghost use Rattle.voice.specs.Valid.{Valid};
-ghost use Rattle.loops.specs.Carried.{kindIn, Lasts};
-ghost use Rattle.loops.specs.Rendered.{Rendered};
+ghost use Rattle.loops.specs.Carried.{Lasts};
+ghost use Rattle.loops.specs.Fed.{fedOf, inputOf};
+ghost use Rattle.loops.specs.Rendered.{Went};
 use crate::carried::anew;
 use crate::carried::carried;
+use crate::orders::by_order;
+use crate::orders::by_orders;
+use allpass::State;
 use integer::Value;
-use step::feedback::circulate;
-use step::filter::moved;
 use voice::Filter;
 use voice::Head;
 use voice::Kind;
 use voice::settle;
 
 mod carried;
+mod orders;
+mod run;
 
-// A head with nothing waiting, and an eliminator beside it.
-pub struct Beside {
+// A voice once the first samples of a buffer are rendered, so many as are done.
+pub struct Progress {
     pub head: Head,
-    pub next: Filter,
+    pub done: usize,
 }
 
-// Renders the buffer while nothing waits.
-fn idle(line: &mut [i32; 2112], order: u32, h: Head, buffer: &mut [i32]) -> Head
-    requires { ⌜ Valid h (now line) × (loudest (now buffer) ≤ M) ⌝ }
-    requires { ⌜ (order ≡ h .filter .tuning .order) × (h .waiting ≡ Idle) × (h .pluck .left ≡ 0) ⌝ }
-    ensures { λ r. ⌜ Rendered (now (buffer .entry)) (stateOf h (now (line .entry))) (now (buffer .exit))
-        (stateOf r (now (line .exit))) (length (now (buffer .entry))) ⌝ }
-    ensures { λ r. ⌜ Valid r (now (line .exit)) ⌝ }
-{
-    let mut v = h.filter.state;
-    let mut last = h.last;
-    let mut at = h.at;
-    let mut i = 0;
-    while i < buffer.len() {
-        let x = samples::read(buffer, i);
-        let f = anew(order, h.filter, v);
-        let r = circulate(line, f, h.loss, last, at, x, Value { n: 0 });
-        last = r.y;
-        samples::write(buffer, i, last);
-        v = r.filter.state;
-        at = r.at;
-        i = i + 1;
-    }
-    carried(h, anew(order, h.filter, v), last, at)
+// What a loop leaves: the filter's state, the last output, and how many samples are done.
+pub struct Ran {
+    pub state: State,
+    pub last: Value,
+    pub done: usize,
 }
 
-// Renders the buffer while a change waits; its eliminator e, which took some samples, reads the line too.
-// An announced change does not take effect before the end.
-fn waiting(
-    line: &mut [i32; 2112],
-    order: u32,
-    coming: u32,
-    h: Head,
-    e: Filter,
-    taken: u32,
-    buffer: &mut [i32],
-) -> Beside
-    requires { ⌜ Valid h (now line) × (loudest (now buffer) ≤ M)
-        × Lasts (kindIn (h .waiting)) (taken + length (now buffer)) (h .advance) ⌝ }
-    requires { ⌜ (order ≡ h .filter .tuning .order) × (coming ≡ e .tuning .order)
-        × (h .waiting ≡ Prepared (kindIn (h .waiting)) e taken)
-        × (h .pluck .left ≡ 0) ⌝ }
-    ensures { λ r. ⌜ Rendered (now (buffer .entry)) (stateOf h (now (line .entry))) (now (buffer .exit))
-        (stateOf
-        (settledOf (r .head) (kindIn (h .waiting)) (r .next)
-        (min (taken + length (now (buffer .entry))) (h .advance)))
-        (now (line .exit)))
-        (length (now (buffer .entry))) ⌝ }
-    ensures { λ r. ⌜ Valid
-        (settledOf (r .head) (kindIn (h .waiting)) (r .next)
-        (min (taken + length (now (buffer .entry))) (h .advance)))
-        (now (line .exit)) ⌝ }
+// The same with the state of an eliminator.
+pub struct Led {
+    pub ran: Ran,
+    pub next: State,
+}
+
+// The input at place i: the number there, or 0 where nothing comes in.
+pub fn input(fed: bool, buffer: &[i32], i: usize) -> Value
+    requires { ⌜ i < length (now buffer) ⌝ }
+    ensures { λ r. ⌜ r .n ≡ inputOf fed (now (buffer .entry)) i ⌝ }
 {
-    let mut v = h.filter.state;
-    let mut u = e.state;
-    let mut last = h.last;
-    let mut at = h.at;
-    let mut i = 0;
-    while i < buffer.len() {
-        let x = samples::read(buffer, i);
-        let g = line::read(line, at, e.tuning.length as usize);
-        let f = anew(order, h.filter, v);
-        let r = circulate(line, f, h.loss, last, at, x, Value { n: 0 });
-        last = r.y;
-        samples::write(buffer, i, last);
-        let n = moved(anew(coming, e, u), g);
-        v = r.filter.state;
-        u = n.state;
-        at = r.at;
-        i = i + 1;
+    if fed {
+        return samples::read(buffer, i);
     }
-    let head = carried(h, anew(order, h.filter, v), last, at);
-    let next = anew(coming, e, u);
-    Beside {
+    Value { n: 0 }
+}
+
+// Renders samples of the buffer while nothing waits.
+pub fn while_idle(line: &mut [i32; 2112], fed: bool, h: Head, buffer: &mut [i32]) -> Progress
+    requires { ⌜ Valid h (now line) × (loudest (fedOf fed 0 (now buffer)) ≤ M) ⌝ }
+    requires { ⌜ (h .waiting ≡ Idle) × (h .pluck .left ≡ 0)
+        × Apart (h .at) (h .filter .tuning .length) (length (now buffer)) ⌝ }
+    ensures { λ r. ⌜ Went fed (now (buffer .entry)) h (now (line .entry)) (now (buffer .exit)) (r .head)
+        (now (line .exit)) (r .done) ⌝ }
+{
+    let from = line::place(h.at, h.filter.tuning.length as usize);
+    let r = by_order(line, fed, h, from, buffer);
+    let v = r.state;
+    let y = r.last;
+    let head = carried(
+        h,
+        anew(h.filter.tuning.order, h.filter, v),
+        y,
+        line::round(h.at + r.done),
+    );
+    Progress {
         head: head,
-        next: next,
-    }
-}
-
-// Renders the buffer while nothing waits, by the loop of its order.
-pub fn while_idle(line: &mut [i32; 2112], h: Head, buffer: &mut [i32]) -> Head
-    requires { ⌜ Valid h (now line) × (loudest (now buffer) ≤ M) × (h .waiting ≡ Idle)
-        × (h .pluck .left ≡ 0) ⌝ }
-    ensures { λ r. ⌜ Rendered (now (buffer .entry)) (stateOf h (now (line .entry))) (now (buffer .exit))
-        (stateOf r (now (line .exit))) (length (now (buffer .entry))) ⌝ }
-    ensures { λ r. ⌜ Valid r (now (line .exit)) ⌝ }
-{
-    if h.filter.tuning.order == 1 {
-        return idle(line, 1, h, buffer);
-    }
-    if h.filter.tuning.order == 2 {
-        return idle(line, 2, h, buffer);
-    }
-    idle(line, 3, h, buffer)
-}
-
-// The same while a change waits, before it may be put in force, by the loop of both orders, that of the filter and that
-// of the change: each call names them, so that a loop is compiled for each pair.
-fn by_orders(line: &mut [i32; 2112], h: Head, e: Filter, taken: u32, buffer: &mut [i32]) -> Beside
-    requires { ⌜ Valid h (now line) × (loudest (now buffer) ≤ M)
-        × Lasts (kindIn (h .waiting)) (taken + length (now buffer)) (h .advance) ⌝ }
-    requires { ⌜ (h .waiting ≡ Prepared (kindIn (h .waiting)) e taken) × (h .pluck .left ≡ 0) ⌝ }
-    ensures { λ r. ⌜ Rendered (now (buffer .entry)) (stateOf h (now (line .entry))) (now (buffer .exit))
-        (stateOf
-        (settledOf (r .head) (kindIn (h .waiting)) (r .next)
-        (min (taken + length (now (buffer .entry))) (h .advance)))
-        (now (line .exit)))
-        (length (now (buffer .entry))) ⌝ }
-    ensures { λ r. ⌜ Valid
-        (settledOf (r .head) (kindIn (h .waiting)) (r .next)
-        (min (taken + length (now (buffer .entry))) (h .advance)))
-        (now (line .exit)) ⌝ }
-{
-    let pair = 10 * h.filter.tuning.order + e.tuning.order;
-    match pair {
-        11 => waiting(line, 1, 1, h, e, taken, buffer),
-        12 => waiting(line, 1, 2, h, e, taken, buffer),
-        13 => waiting(line, 1, 3, h, e, taken, buffer),
-        21 => waiting(line, 2, 1, h, e, taken, buffer),
-        22 => waiting(line, 2, 2, h, e, taken, buffer),
-        23 => waiting(line, 2, 3, h, e, taken, buffer),
-        31 => waiting(line, 3, 1, h, e, taken, buffer),
-        32 => waiting(line, 3, 2, h, e, taken, buffer),
-        _ => waiting(line, 3, 3, h, e, taken, buffer),
+        done: r.done,
     }
 }
 
@@ -165,25 +91,45 @@ fn counted(taken: u32, more: usize, advance: u32) -> u32
     advance
 }
 
-// Renders the buffer while a change waits; an announced one may take effect at its end.
+// Renders samples of the buffer while a change waits; an announced one may take effect at the last.
 pub fn while_waiting(
     line: &mut [i32; 2112],
+    fed: bool,
     h: Head,
     kind: Kind,
     e: Filter,
     taken: u32,
     buffer: &mut [i32],
-) -> Head
-    requires { ⌜ Valid h (now line) × (loudest (now buffer) ≤ M)
+) -> Progress
+    requires { ⌜ Valid h (now line) × (loudest (fedOf fed 0 (now buffer)) ≤ M)
         × Lasts kind (taken + length (now buffer)) (h .advance) ⌝ }
-    requires { ⌜ (h .waiting ≡ Prepared kind e taken) × (h .pluck .left ≡ 0) ⌝ }
-    ensures { λ r. ⌜ Rendered (now (buffer .entry)) (stateOf h (now (line .entry))) (now (buffer .exit))
-        (stateOf r (now (line .exit))) (length (now (buffer .entry))) ⌝ }
-    ensures { λ r. ⌜ Valid r (now (line .exit)) ⌝ }
+    requires { ⌜ (h .waiting ≡ Prepared kind e taken) × (h .pluck .left ≡ 0)
+        × Apart (h .at) (h .filter .tuning .length) (length (now buffer))
+        × Apart (h .at) (e .tuning .length) (length (now buffer)) ⌝ }
+    ensures { λ r. ⌜ Went fed (now (buffer .entry)) h (now (line .entry)) (now (buffer .exit)) (r .head)
+        (now (line .exit)) (r .done) ⌝ }
 {
-    let n = buffer.len();
-    let p = by_orders(line, h, e, taken, buffer);
-    let head = p.head;
-    let next = p.next;
-    settle(head, kind, next, counted(taken, n, h.advance))
+    let from = line::place(h.at, h.filter.tuning.length as usize);
+    let far = line::place(h.at, e.tuning.length as usize);
+    let p = by_orders(line, fed, h, e, taken, from, far, buffer);
+    let r = p.ran;
+    let v = r.state;
+    let y = r.last;
+    let u = p.next;
+    let head = carried(
+        h,
+        anew(h.filter.tuning.order, h.filter, v),
+        y,
+        line::round(h.at + r.done),
+    );
+    let n = settle(
+        head,
+        kind,
+        anew(e.tuning.order, e, u),
+        counted(taken, r.done, h.advance),
+    );
+    Progress {
+        head: n,
+        done: r.done,
+    }
 }

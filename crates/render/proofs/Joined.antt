@@ -1,19 +1,20 @@
 -- Parts of a buffer that are rendered one after the other, and what they are together.
 -- Assumes nothing.
 use mathlib.Core.Path.{_≡_, refl, sym, ap, ap₂, subst, _∙_}
+use mathlib.Core.Bool.{Bool}
 use mathlib.Core.List.{List, [], _∷_, _++_, append-assoc, append-nil}
 use Prim.Native.Nat.{ℕ, zero, suc, _+_, _-_, _≤_}
 use native.Mathlib.Omega.{arith}
 use lib.IntN.{ℤ}
 use lib.ListN.{length, take, drop, length-append, length-drop, take-append-drop}
 use borrow.Rule.Slice.PartMut.{putMid, post-is}
-use lib.Seq.{drop-length, length-take-le, take-append-add}
-use lib.Seq.{drop-append-add, take-append-seam, drop-append-seam}
+use lib.Seq.{drop-length, length-take-le, take-append-add, drop-append-add}
 use Rattle.integer.specs.Rounding.{M}
 use Rattle.samples.specs.Samples.{loudest}
 use Rattle.rule.specs.State.{State, step, sounds, blockAfter, blockOut}
+use Rattle.loops.specs.Fed.{cleared, fedOf}
 use Rattle.loops.specs.Rendered.{Rendered}
-use Rattle.loops.proofs.Rendered.{all-after, all-out}
+use Rattle.loops.proofs.Fed.{length-fed, fed-append}
 
 -- a part that was lent to the end, back in its place
 pub back : (a : ℕ) (l m : List ℤ) → a ≤ length l → putMid a (length l - a) l m ≡ take a l ++ m
@@ -31,55 +32,75 @@ out-append : (v : State) (xs ys : List ℤ) → blockOut v (xs ++ ys)
 out-append v [] ys = refl
 out-append v (x ∷ xs) ys = ap (λ (l : List ℤ). sounds v ∷ l) (out-append (step v x) xs ys)
 
-loudest-drop : (n : ℕ) (b : List ℤ) → loudest b ≤ M → loudest (drop n b) ≤ M
-loudest-drop zero b h = h
-loudest-drop (suc n) [] h = h
-loudest-drop (suc n) (x ∷ b) h = loudest-drop n b (omega arith)
+loudest-append : (b c : List ℤ) → loudest b ≤ M → loudest c ≤ M → loudest (b ++ c) ≤ M
+loudest-append [] c h k = k
+loudest-append (x ∷ b) c h k = let l = loudest-append b c (omega arith) k in omega (arith, l)
 
-pub loudest-take : (n : ℕ) (b : List ℤ) → loudest b ≤ M → loudest (take n b) ≤ M
-loudest-take zero b h = omega arith
-loudest-take (suc n) [] h = h
-loudest-take (suc n) (x ∷ b) h =
-    let k = loudest-take n b (omega arith) in
-    omega (arith, k)
+take-append : (j : ℕ) (b c : List ℤ) → j ≤ length b → take j (b ++ c) ≡ take j b
+take-append zero b c h = refl
+take-append (suc j) [] c h = absurd (omega arith)
+take-append (suc j) (x ∷ b) c h = ap (λ (l : List ℤ). x ∷ l) (take-append j b c (omega arith))
 
--- ---- the first n samples, and the rest as it was
-module _ {v u : State} (b : List ℤ) {c : List ℤ} (n : ℕ) (h : n ≤ length b) (quiet : loudest b ≤ M)
-    (t : Rendered (take n b) v c u (length (take n b))) where
-  first : length (take n b) ≡ n
-  first = length-take-le n b h
+drop-append : (j : ℕ) (b c : List ℤ) → j ≤ length b → drop j (b ++ c) ≡ drop j b ++ c
+drop-append zero b c h = refl
+drop-append (suc j) [] c h = absurd (omega arith)
+drop-append (suc j) (x ∷ b) c h = drop-append j b c (omega arith)
 
-  after : u ≡ blockAfter v (take n b)
-  after = all-after (take n b) v c u (length (take n b)) t (omega (arith, t .long))
+-- ---- what comes in, in two parts
+loud-parts : (a b : List ℤ) → loudest (a ++ b) ≤ M → (loudest a ≤ M) × (loudest b ≤ M)
+loud-parts [] b h = (omega arith, h)
+loud-parts (x ∷ a) b h = let p = loud-parts a b (omega arith) in (omega (arith, p .0), p .1)
 
-  out : c ≡ blockOut v (take n b)
-  out = all-out (take n b) v c u (length (take n b)) t (omega (arith, t .long))
+pub zeros-quiet : (b : List ℤ) → loudest (cleared 0 b) ≤ M
+zeros-quiet [] = omega arith
+zeros-quiet (x ∷ b) = omega (arith, zeros-quiet b)
 
-  long : length c ≡ n
-  long = t .long ∙ first
+module _ (fed : Bool) (n : ℕ) (b : List ℤ) where
+  fed-split : fedOf fed 0 b ≡ fedOf fed 0 (take n b) ++ fedOf fed 0 (drop n b)
+  fed-split =
+      ap (λ (l : List ℤ). fedOf fed 0 l) (sym (take-append-drop n b))
+      ∙ fed-append fed 0 (take n b) (drop n b) (omega arith)
 
-  rest : drop n (c ++ drop n b) ≡ drop n b
-  rest = subst (λ (m : ℕ). drop m (c ++ drop n b) ≡ drop n b) long (drop-append-seam c (drop n b))
+  fed-parts : loudest (fedOf fed 0 b) ≤ M
+      → (loudest (fedOf fed 0 (take n b)) ≤ M) × (loudest (fedOf fed 0 (drop n b)) ≤ M)
+  fed-parts h = loud-parts (fedOf fed 0 (take n b)) (fedOf fed 0 (drop n b)) (rw fed-split at h)
 
-  done : take n (c ++ drop n b) ≡ c
-  done = subst (λ (m : ℕ). take m (c ++ drop n b) ≡ c) long (take-append-seam c (drop n b))
+  pub fed-quiet : loudest (fedOf fed 0 b) ≤ M → loudest (fedOf fed 0 (take n b)) ≤ M
+  fed-quiet h = fed-parts h .0
 
-  pub rendered-first : Rendered b v (c ++ drop n b) u n
-  rendered-first = record {
-    within = h;
-    long = rw length-append (omega (arith, long, length-drop n b));
-    left =
-        ap (λ (l : List ℤ). blockAfter u l) rest
-        ∙ ap (λ (s : State). blockAfter s (drop n b)) after
-        ∙ sym (after-append v (take n b) (drop n b))
-        ∙ ap (blockAfter v) (take-append-drop n b);
-    out =
-        ap₂ (λ (x y : List ℤ). x ++ blockOut u y) done rest
-        ∙ ap₂ (λ (x : List ℤ) (s : State). x ++ blockOut s (drop n b)) out after
-        ∙ sym (out-append v (take n b) (drop n b))
-        ∙ ap (blockOut v) (take-append-drop n b);
-    quiet = rw rest (loudest-drop n b quiet);
-  }
+-- ---- samples of the first part of a buffer, and the rest as it was
+module _ {xs b : List ℤ} {v u : State} {j : ℕ} (t : Rendered xs v b u j) (ys : List ℤ) (quiet : loudest ys ≤ M)
+  where
+    within : j ≤ length b
+    within = omega (arith, t .within, t .long)
+
+    pub rendered-first : Rendered (xs ++ ys) v (b ++ ys) u j
+    rendered-first = record {
+      within = rw length-append (omega (arith, t .within));
+      long = rw (length-append, length-append) (omega (arith, t .long));
+      left =
+          ap (λ (l : List ℤ). blockAfter u l) (drop-append j b ys within)
+          ∙ after-append u (drop j b) ys
+          ∙ ap (λ (s : State). blockAfter s ys) (t .left)
+          ∙ sym (after-append v xs ys);
+      out =
+          ap₂ (λ (x y : List ℤ). x ++ blockOut u y) (take-append j b ys within) (drop-append j b ys within)
+          ∙ ap (λ (l : List ℤ). take j b ++ l) (out-append u (drop j b) ys)
+          ∙ sym (append-assoc (take j b) (blockOut u (drop j b)) (blockOut (blockAfter u (drop j b)) ys))
+          ∙ ap₂ (λ (x : List ℤ) (s : State). x ++ blockOut s ys) (t .out) (t .left)
+          ∙ sym (out-append v xs ys);
+      quiet = rw (drop-append j b ys within) (loudest-append (drop j b) ys (t .quiet) quiet);
+    }
+
+pub fed-first : (fed : Bool) (n : ℕ) (b c : List ℤ) {v u : State} {j : ℕ} → loudest (fedOf fed 0 b) ≤ M
+    → Rendered (fedOf fed 0 (take n b)) v (fedOf fed j c) u j
+    → Rendered (fedOf fed 0 b) v (fedOf fed j (c ++ drop n b)) u j
+fed-first fed n b c {v} {u} {j} q t =
+    let o : j ≤ length c = omega (arith, t .within, t .long, length-fed fed j c) in
+    subst (λ (x : List ℤ). Rendered x v (fedOf fed j (c ++ drop n b)) u j) (sym (fed-split fed n b))
+    (subst (λ (y : List ℤ). Rendered (fedOf fed 0 (take n b) ++ fedOf fed 0 (drop n b)) v y u j)
+    (sym (fed-append fed j c (drop n b) o))
+    (rendered-first t (fedOf fed 0 (drop n b)) (fed-parts fed n b q .1)))
 
 -- ---- i samples, and n of the rest of the buffer, which is then c
 module _ {xs b c : List ℤ} {v u w : State} {i n : ℕ} (s : Rendered xs v b u i)
@@ -107,3 +128,10 @@ module _ {xs b c : List ℤ} {v u w : State} {i n : ℕ} (s : Rendered xs v b u 
         ∙ s .out;
     quiet = rw then-rest (t .quiet);
   }
+
+-- no sample, and then some
+pub rendered-none : {xs b c : List ℤ} {v u w : State} {n : ℕ} → Rendered xs v b u 0 → Rendered b u c w n
+    → Rendered xs v c w n
+rendered-none {xs} {c = c} {v} {w = w} {n} s t =
+    let e : 0 + n ≡ n = omega arith in
+    subst (λ (i : ℕ). Rendered xs v c w i) e (rendered-then s t)

@@ -1,15 +1,20 @@
-// Rendering in place, for blocks and the waits of a score: each sample is an input, and becomes the output.
+// Rendering in place, for blocks and the waits of a score: each sample is an input or none comes in, and becomes
+// the output.
 // A buffer is rendered in stretches, each by the loop that fits what waits and what sounds.
 ghost use mathlib.Core.Path.{_≡_};
 ghost use Prim.Native.Nat.{_≤_, _<_};
-ghost use lib.ListN.{length};
+ghost use lib.IntN.{pos};
+ghost use lib.ListN.{length, replicate};
 ghost use Rattle.integer.specs.Rounding.{M};
 ghost use Rattle.samples.specs.Samples.{loudest};
 ghost use Rattle.rule.specs.State.{blockAfter, blockOut};
 ghost use Rattle.rule.specs.Voice.{announced};
 ghost use Rattle.voice.specs.Struct.{kindOf, stateOf};
 ghost use Rattle.voice.specs.Valid.{Valid};
-ghost use Rattle.loops.specs.Rendered.{Rendered};
+ghost use Rattle.loops.specs.Fed.{fedOf};
+ghost use Rattle.loops.specs.Rendered.{Went};
+use loops::Progress;
+use loops::input;
 use loops::while_idle;
 use loops::while_waiting;
 use step::step;
@@ -17,23 +22,16 @@ use voice::Head;
 use voice::Kind;
 use voice::Waiting;
 
-// A voice once the first samples of a buffer are rendered, so many as are done.
-pub struct Progress {
-    pub head: Head,
-    pub done: usize,
-}
-
 // Renders samples until no pluck sounds, one at least; a change may wait.
-fn sounding(line: &mut [i32; 2112], mut head: Head, buffer: &mut [i32]) -> Progress
-    requires { ⌜ Valid head (now line) × (loudest (now buffer) ≤ M) ⌝ }
-    ensures { λ r. ⌜ Rendered (now (buffer .entry)) (stateOf head (now (line .entry))) (now (buffer .exit))
-        (stateOf (r .head) (now (line .exit))) (r .done) ⌝ }
-    ensures { λ r. ⌜ Valid (r .head) (now (line .exit)) ⌝ }
+fn sounding(line: &mut [i32; 2112], fed: bool, mut head: Head, buffer: &mut [i32]) -> Progress
+    requires { ⌜ Valid head (now line) × (loudest (fedOf fed 0 (now buffer)) ≤ M) ⌝ }
+    ensures { λ r. ⌜ Went fed (now (buffer .entry)) head (now (line .entry)) (now (buffer .exit)) (r .head)
+        (now (line .exit)) (r .done) ⌝ }
     ensures { λ r. ⌜ (0 < length (now (buffer .entry)) → 0 < r .done) ⌝ }
 {
     let mut i = 0;
     while i < buffer.len() {
-        let x = samples::read(buffer, i);
+        let x = input(fed, buffer, i);
         let r = step(line, head, x);
         samples::write(buffer, i, r.y);
         head = r.head;
@@ -52,15 +50,14 @@ fn sounding(line: &mut [i32; 2112], mut head: Head, buffer: &mut [i32]) -> Progr
 }
 
 fn smaller(a: usize, b: usize) -> usize
-    ensures { λ r. ⌜ (r ≤ a) × (r ≤ b) × (0 < a → 0 < b → 0 < r) ⌝ }
+    ensures { λ r. ⌜ (r ≤ a) × (r ≤ b) ⌝ }
 {
     if a < b { a } else { b }
 }
 
 // How many of n samples a change of this kind waits for, if an announced one waits for so many more.
 fn reach(kind: Kind, n: usize, left: usize) -> usize
-    ensures { λ r. ⌜ (r ≤ n) × (kindOf kind ≡ announced → r ≤ left)
-        × (0 < n → (kindOf kind ≡ announced → 0 < left) → 0 < r) ⌝ }
+    ensures { λ r. ⌜ (r ≤ n) × (kindOf kind ≡ announced → r ≤ left) ⌝ }
 {
     match kind {
         Kind::Announced => smaller(n, left),
@@ -68,40 +65,61 @@ fn reach(kind: Kind, n: usize, left: usize) -> usize
     }
 }
 
-// Renders as many samples as one loop can, one at least.
-fn stretch(line: &mut [i32; 2112], h: Head, buffer: &mut [i32]) -> Progress
-    requires { ⌜ Valid h (now line) × (loudest (now buffer) ≤ M) ⌝ }
-    ensures { λ r. ⌜ Rendered (now (buffer .entry)) (stateOf h (now (line .entry))) (now (buffer .exit))
-        (stateOf (r .head) (now (line .exit))) (r .done) ⌝ }
-    ensures { λ r. ⌜ Valid (r .head) (now (line .exit)) ⌝ }
-    ensures { λ r. ⌜ (0 < length (now (buffer .entry)) → 0 < r .done) ⌝ }
+// Renders samples while no pluck sounds, as many as one loop can.
+fn quiet(line: &mut [i32; 2112], fed: bool, h: Head, buffer: &mut [i32]) -> Progress
+    requires { ⌜ Valid h (now line) × (loudest (fedOf fed 0 (now buffer)) ≤ M) ⌝ }
+    ensures { λ r. ⌜ Went fed (now (buffer .entry)) h (now (line .entry)) (now (buffer .exit)) (r .head)
+        (now (line .exit)) (r .done) ⌝ }
 {
     if h.pluck.left != 0 {
-        return sounding(line, h, buffer);
+        return Progress { head: h, done: 0 };
     }
-    let n = buffer.len();
+    let n = line::room(h.at, h.filter.tuning.length as usize, buffer.len());
     let w = h.waiting;
     match w {
-        Waiting::Idle => {
-            let head = while_idle(line, h, buffer);
-            Progress {
-                head: head,
-                done: n,
-            }
-        }
+        Waiting::Idle => while_idle(line, fed, h, &mut buffer[..n]),
         Waiting::Prepared(kind, e, taken) => {
-            let done = reach(kind, n, (h.advance - taken) as usize);
-            let head = while_waiting(line, h, kind, e, taken, &mut buffer[..done]);
-            Progress {
-                head: head,
-                done: done,
-            }
+            let m = line::room(h.at, e.tuning.length as usize, n);
+            let k = reach(kind, m, (h.advance - taken) as usize);
+            while_waiting(line, fed, h, kind, e, taken, &mut buffer[..k])
         }
     }
 }
 
+// Renders as many samples as one loop can, one at least.
+fn stretch(line: &mut [i32; 2112], fed: bool, h: Head, buffer: &mut [i32]) -> Progress
+    requires { ⌜ Valid h (now line) × (loudest (fedOf fed 0 (now buffer)) ≤ M) ⌝ }
+    ensures { λ r. ⌜ Went fed (now (buffer .entry)) h (now (line .entry)) (now (buffer .exit)) (r .head)
+        (now (line .exit)) (r .done) ⌝ }
+    ensures { λ r. ⌜ (0 < length (now (buffer .entry)) → 0 < r .done) ⌝ }
+{
+    let p = quiet(line, fed, h, buffer);
+    if p.done != 0 {
+        return p;
+    }
+    sounding(line, fed, p.head, buffer)
+}
+
+// Each sample of the buffer is an input where one is fed, else 0 comes in, and becomes the output.
+fn through(line: &mut [i32; 2112], fed: bool, mut head: Head, buffer: &mut [i32]) -> Head
+    requires { ⌜ Valid head (now line) × (loudest (fedOf fed 0 (now buffer)) ≤ M) ⌝ }
+    ensures { λ r. ⌜ stateOf r (now (line .exit))
+        ≡ blockAfter (stateOf head (now (line .entry))) (fedOf fed 0 (now (buffer .entry))) ⌝ }
+    ensures { λ _. ⌜ now (buffer .exit)
+        ≡ blockOut (stateOf head (now (line .entry))) (fedOf fed 0 (now (buffer .entry))) ⌝ }
+    ensures { λ r. ⌜ Valid r (now (line .exit)) ⌝ }
+{
+    let mut i = 0;
+    while i < buffer.len() {
+        let p = stretch(line, fed, head, &mut buffer[i..]);
+        head = p.head;
+        i = i + p.done;
+    }
+    head
+}
+
 // Each sample of the buffer is an input, and becomes the output.
-pub fn render(line: &mut [i32; 2112], mut head: Head, buffer: &mut [i32]) -> Head
+pub fn render(line: &mut [i32; 2112], head: Head, buffer: &mut [i32]) -> Head
     requires { ⌜ Valid head (now line) × (loudest (now buffer) ≤ M) ⌝ }
     ensures { λ r. ⌜ stateOf r (now (line .exit))
         ≡ blockAfter (stateOf head (now (line .entry))) (now (buffer .entry)) ⌝ }
@@ -109,11 +127,17 @@ pub fn render(line: &mut [i32; 2112], mut head: Head, buffer: &mut [i32]) -> Hea
         ≡ blockOut (stateOf head (now (line .entry))) (now (buffer .entry)) ⌝ }
     ensures { λ r. ⌜ Valid r (now (line .exit)) ⌝ }
 {
-    let mut i = 0;
-    while i < buffer.len() {
-        let p = stretch(line, head, &mut buffer[i..]);
-        head = p.head;
-        i = i + p.done;
-    }
-    head
+    through(line, true, head, buffer)
+}
+
+// The output where 0 comes in at each sample, whatever the buffer held.
+pub fn silent(line: &mut [i32; 2112], head: Head, buffer: &mut [i32]) -> Head
+    requires { ⌜ Valid head (now line) ⌝ }
+    ensures { λ r. ⌜ stateOf r (now (line .exit))
+        ≡ blockAfter (stateOf head (now (line .entry))) (replicate (length (now (buffer .entry))) (pos 0)) ⌝ }
+    ensures { λ _. ⌜ now (buffer .exit)
+        ≡ blockOut (stateOf head (now (line .entry))) (replicate (length (now (buffer .entry))) (pos 0)) ⌝ }
+    ensures { λ r. ⌜ Valid r (now (line .exit)) ⌝ }
+{
+    through(line, false, head, buffer)
 }

@@ -41,7 +41,8 @@ pub fn all_samples(s: &[i32]) -> bool
     true
 }
 
-fn is_sample(x: Value) -> bool
+// The number is a sample.
+pub fn is_sample(x: Value) -> bool
     ensures { λ r. ⌜ r ≡ leb (natAbs (x .n)) M ⌝ }
 {
     -8_388_607 <= x.n && x.n <= 8_388_607

@@ -23,7 +23,7 @@ pub struct Circulated {
 }
 
 // What the loop brings back: G·(y(n) + y(n − 1)), cut toward zero.
-fn looped(loss: u32, y: Value, last: Value) -> Value
+pub fn looped(loss: u32, y: Value, last: Value) -> Value
     requires { ⌜ (loss ≤ 65535) × (natAbs (y .n) ≤ M) × (natAbs (last .n) ≤ M) ⌝ }
     ensures { λ r. ⌜ (r .n ≡ Q (pos loss *ℤ (y .n +ℤ last .n))) × (natAbs (r .n) ≤ M) ⌝ }
 {
@@ -34,7 +34,7 @@ fn looped(loss: u32, y: Value, last: Value) -> Value
 }
 
 // s(n): the input, the noise sample and what the loop brings back, clipped.
-fn mixed(x: Value, noise: Value, back: Value) -> Value
+pub fn mixed(x: Value, noise: Value, back: Value) -> Value
     requires { ⌜ (natAbs (x .n) ≤ M) × (natAbs (noise .n) ≤ 2 ^ 23) × (natAbs (back .n) ≤ M) ⌝ }
     ensures { λ r. ⌜ r .n ≡ Clip ((x .n +ℤ noise .n) +ℤ back .n) ⌝ }
 {

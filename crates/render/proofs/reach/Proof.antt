@@ -20,14 +20,10 @@ enum-told-2 c = search needs
 returns : tie.Need-returns
 returns c =
     let e = c .smaller .ensures in
-    (e .0, λ i. e .1, λ n f. e .2 n (f (ap kindOf (c .before .enum-told .given .1))))
+    (e .0, λ i. e .1)
 
 returns-2 : tie.Need-returns-2
-returns-2 c = (
-  omega arith,
-  λ i. absurd (announced-asked i (ap kindOf (c .enum-told2 .given .1))),
-  λ n f. n,
-)
+returns-2 c = (omega arith, λ i. absurd (announced-asked i (ap kindOf (c .enum-told2 .given .1))))
 
 pub reach-spec : {M : Type 1} → statement M
 reach-spec = tie.close (tie.spec enum-told smaller-requires enum-told-2 returns returns-2)

@@ -5,8 +5,11 @@ use Rattle.allpass.specs.Allpass.{next}
 use Rattle.allpass.proofs.filter.eliminate.Statement.{statement}
 use Rattle.allpass.proofs.filter.eliminate.Tie as tie
 
+weighed-requires : tie.Need-weighed-requires
+weighed-requires c κs = search needs
+
 inner-requires : tie.Need-inner-requires
-inner-requires c κs = search needs
+inner-requires c κs = (c .before .pre, c .weighed .ensures)
 
 shifted-requires : tie.Need-shifted-requires
 shifted-requires c κs = search needs
@@ -16,4 +19,4 @@ unfolding next
 returns c = rw (c .before .inner .ensures) at (c .shifted .ensures)
 
 pub eliminate-spec : {M : Type 1} → statement M
-eliminate-spec = tie.close (tie.spec inner-requires shifted-requires returns)
+eliminate-spec = tie.close (tie.spec weighed-requires inner-requires shifted-requires returns)

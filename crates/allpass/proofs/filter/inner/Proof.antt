@@ -3,7 +3,6 @@
 use mathlib.Core.Path.{_≡_, refl}
 use mathlib.Core.List.{List}
 use native.Mathlib.Omega.{arith}
-use borrow.Author.Needs.{needs}
 use lib.IntN.{ℤ}
 use mir.Syntax.{w64}
 use mir.Val.{SFits, toZ, ofZ}
@@ -30,23 +29,17 @@ module _ (s : tie.Start) where
   w-fits : SFits w64 (inner A v f)
   w-fits =
       abs-fits w64 (inner A v f)
-      (omega (arith, inner-within A (s .pre .taps-small) f (s .pre .state-within) (s .pre .sample)))
-
-weighed-requires : tie.Need-weighed-requires
-weighed-requires c κs = search needs
+      (omega (arith, inner-within A (s .pre .0 .taps-small) f (s .pre .0 .state-within) (s .pre .0 .sample)))
 
 module _ (c : tie.After-struct-told2) where
-  abbrev after : tie.After-weighed
-  after = c .before .before .before .before
-
   abbrev start : tie.Start
-  start = after .before
+  start = c .before .before .before .before
 
   f-read : toZ w64 (ofZ w64 (f start)) ≡ f start
   f-read = read w64 (f start) (c .before .before .struct-told .given .0 .1) refl
 
-  r-read : toZ w64 (ofZ w64 (after .weighed .result .n)) ≡ R (dot (A start) (v start))
-  r-read = read w64 (after .weighed .result .n) (c .struct-told2 .given .0 .1) (after .weighed .ensures)
+  r-read : toZ w64 (ofZ w64 (start .args .r .n)) ≡ R (dot (A start) (v start))
+  r-read = read w64 (start .args .r .n) (c .struct-told2 .given .0 .1) (start .pre .1)
 
 sub-t6 : tie.Need-sub-t6
 unfolding inner
@@ -57,4 +50,4 @@ unfolding inner
 returns c = rw (f-read c, r-read c) (toZ-ofZ (w-fits (start c)))
 
 pub inner-spec : {M : Type 1} → statement M
-inner-spec = tie.close (tie.spec weighed-requires sub-t6 returns)
+inner-spec = tie.close (tie.spec sub-t6 returns)

@@ -1,6 +1,6 @@
--- `allpass::filter::output` meets its contract: the turned coefficients are as small, the sum within 3M.
+-- `allpass::filter::output` meets its contract: the sum is within 3M.
 -- Assumes nothing.
-use mathlib.Core.Path.{_≡_, ap, _∙_}
+use mathlib.Core.Path.{_≡_}
 use mathlib.Core.List.{List, [], reverse}
 use Prim.Native.Nat.{_≤_}
 use native.Mathlib.Omega.{arith}
@@ -40,51 +40,34 @@ module _ (s : tie.Start) where
       let q = R-within (reverse A) small (s .pre .0 .state-within) in
       abs-fits w64 (x +ℤ r) (omega (arith, abs-+ x r))
 
-turned-requires : tie.Need-turned-requires
-turned-requires c κs = search needs
-
-weighed-requires : tie.Need-weighed-requires
-weighed-requires c κs =
-    let s = c .before in
-    (s .pre .0 .least, s .pre .0 .most, rw (c .turned .ensures) (small s), s .pre .0 .state-within)
+reversed-requires : tie.Need-reversed-requires
+reversed-requires c κs = (c .pre .0, c .pre .2)
 
 oldest-requires : tie.Need-oldest-requires
 oldest-requires c κs = search needs
-
-weighed-is : (c : tie.After-weighed)
-    → c .weighed .result .n ≡ R (dot (reverse (A (c .before .before))) (v (c .before .before)))
-weighed-is c =
-    let s = c .before .before in
-    c .weighed .ensures ∙ ap (λ (B : List ℤ). R (dot B (v s))) (c .before .turned .ensures)
 
 module _ (c : tie.After-struct-told2) where
   abbrev after : tie.After-oldest
   after = c .before .before .before .before
 
   abbrev start : tie.Start
-  start = after .before .before .before
+  start = after .before .before
 
   x-read : toZ w64 (ofZ w64 (after .oldest .result .n)) ≡ x start
   x-read =
       let o = after .oldest in
       read w64 (o .result .n) (c .before .before .struct-told .given .0 .1) (o .ensures)
 
-  r-read : toZ w64 (ofZ w64 (after .before .weighed .result .n)) ≡ R (dot (reverse (A start)) (v start))
+  r-read : toZ w64 (ofZ w64 (after .before .reversed .result .n)) ≡ R (dot (reverse (A start)) (v start))
   r-read =
-      let w = after .before in
-      read w64 (w .weighed .result .n) (c .struct-told2 .given .0 .1) (weighed-is w)
+      let z = after .before .reversed in
+      read w64 (z .result .n) (c .struct-told2 .given .0 .1) (z .ensures)
 
 add-t8 : tie.Need-add-t8
 add-t8 c = rw (x-read c, r-read c) (y-fits (start c))
 
-clip-requires : tie.Need-clip-requires
-clip-requires c κs = search needs
-
 returns : tie.Need-returns
-returns c =
-    let b = c .before in
-    rw (x-read b, r-read b, toZ-ofZ (y-fits (start b))) at (c .clip .ensures)
+returns c = rw (x-read c, r-read c) (toZ-ofZ (y-fits (start c)))
 
 pub output-spec : {M : Type 1} → statement M
-output-spec =
-    tie.close (tie.spec turned-requires weighed-requires oldest-requires add-t8 clip-requires returns)
+output-spec = tie.close (tie.spec reversed-requires oldest-requires add-t8 returns)

@@ -1,0 +1,156 @@
+// The two loops. A loop renders a stretch in which no place comes to the ring's end, with the state and the sum
+// of the next w in locals, and stops before a sample whose output is to be clipped.
+ghost use mathlib.Core.Path.{_≡_};
+ghost use Prim.Native.Nat.{_+_, _-_, _%_, _≤_, _<_, min};
+ghost use lib.IntN.{pos, natAbs, _+ℤ_, _*ℤ_};
+ghost use lib.ListN.{length};
+ghost use Rattle.integer.specs.Rounding.{M, clip as Clip};
+ghost use Rattle.integer.specs.Cut.{Q};
+ghost use Rattle.samples.specs.Samples.{loudest};
+ghost use Rattle.line.specs.Ring.{Apart};
+ghost use Rattle.voice.specs.declared.Waiting.the-variants.{Idle, Prepared};
+ghost use Rattle.voice.specs.Struct.{settledOf};
+ghost use Rattle.voice.specs.Valid.{Valid};
+ghost use Rattle.loops.specs.Carried.{anewOf, kindIn, Lasts, ranOf};
+ghost use Rattle.loops.specs.Fed.{fedOf, inputOf};
+ghost use Rattle.loops.specs.Rendered.{Went};
+use crate::Led;
+use crate::Ran;
+use crate::input;
+use allpass::filter::eliminate;
+use allpass::filter::take;
+use allpass::filter::weighed;
+use integer::Value;
+use step::feedback::looped;
+use step::feedback::mixed;
+use voice::Filter;
+use voice::Head;
+
+// s(n). What the loop brings back is a sample, so that it is clipped only where something comes in.
+fn newest(fed: bool, buffer: &[i32], i: usize, loss: u32, y: Value, last: Value) -> Value
+    requires { ⌜ (i < length (now buffer)) × (natAbs (inputOf fed (now buffer) i) ≤ M) ⌝ }
+    requires { ⌜ (loss ≤ 65535) × (natAbs (y .n) ≤ M) × (natAbs (last .n) ≤ M) ⌝ }
+    ensures { λ r. ⌜ r .n ≡ Clip ((inputOf fed (now (buffer .entry)) i +ℤ pos 0)
+        +ℤ Q (pos loss *ℤ (y .n +ℤ last .n))) ⌝ }
+{
+    let x = input(fed, buffer, i);
+    let b = looped(loss, y, last);
+    if fed {
+        return mixed(x, Value { n: 0 }, b);
+    }
+    b
+}
+
+// Renders samples of the buffer while nothing waits; from is the place that the filter reads at first.
+pub fn idle(
+    line: &mut [i32; 2112],
+    order: u32,
+    fed: bool,
+    h: Head,
+    from: usize,
+    buffer: &mut [i32],
+) -> Ran
+    requires { ⌜ Valid h (now line) × (loudest (fedOf fed 0 (now buffer)) ≤ M) ⌝ }
+    requires { ⌜ (order ≡ h .filter .tuning .order) × (h .waiting ≡ Idle) × (h .pluck .left ≡ 0) ⌝ }
+    requires { ⌜ (from ≡ (h .at + 2112 - h .filter .tuning .length) % 2112)
+        × Apart (h .at) (h .filter .tuning .length) (length (now buffer)) ⌝ }
+    ensures { λ r. ⌜ Went fed (now (buffer .entry)) h (now (line .entry)) (now (buffer .exit))
+        (ranOf h r) (now (line .exit)) (r .done) ⌝ }
+{
+    let c = h.filter.coefficients;
+    let at = h.at;
+    let mut v = h.filter.state;
+    let mut ahead = weighed(order, c, v);
+    let mut last = h.last;
+    let mut i = 0;
+    while i < buffer.len() {
+        let x = samples::read(line, from + i);
+        let t = take(order, c, v, ahead, x);
+        let y = t.y;
+        if !samples::is_sample(y) {
+            return Ran {
+                state: v,
+                last: last,
+                done: i,
+            };
+        }
+        let s = newest(fed, buffer, i, h.loss, y, last);
+        samples::write(line, at + i, s);
+        samples::write(buffer, i, y);
+        v = t.state;
+        ahead = t.ahead;
+        last = y;
+        i = i + 1;
+    }
+    Ran {
+        state: v,
+        last: last,
+        done: i,
+    }
+}
+
+// The same while a change waits; its eliminator e, which took some samples, reads from the place far on.
+// An announced change does not take effect before the end.
+pub fn waiting(
+    line: &mut [i32; 2112],
+    order: u32,
+    coming: u32,
+    fed: bool,
+    h: Head,
+    e: Filter,
+    taken: u32,
+    from: usize,
+    far: usize,
+    buffer: &mut [i32],
+) -> Led
+    requires { ⌜ Valid h (now line) × (loudest (fedOf fed 0 (now buffer)) ≤ M)
+        × Lasts (kindIn (h .waiting)) (taken + length (now buffer)) (h .advance) ⌝ }
+    requires { ⌜ (order ≡ h .filter .tuning .order) × (coming ≡ e .tuning .order)
+        × (h .waiting ≡ Prepared (kindIn (h .waiting)) e taken)
+        × (h .pluck .left ≡ 0) ⌝ }
+    requires { ⌜ (from ≡ (h .at + 2112 - h .filter .tuning .length) % 2112)
+        × (far ≡ (h .at + 2112 - e .tuning .length) % 2112)
+        × Apart (h .at) (h .filter .tuning .length) (length (now buffer))
+        × Apart (h .at) (e .tuning .length) (length (now buffer)) ⌝ }
+    ensures { λ r. ⌜ Went fed (now (buffer .entry)) h (now (line .entry)) (now (buffer .exit))
+        (settledOf (ranOf h (r .ran)) (kindIn (h .waiting)) (anewOf (e .tuning .order) e (r .next))
+        (min (taken + r .ran .done) (h .advance)))
+        (now (line .exit)) (r .ran .done) ⌝ }
+{
+    let c = h.filter.coefficients;
+    let at = h.at;
+    let mut v = h.filter.state;
+    let mut ahead = weighed(order, c, v);
+    let mut u = e.state;
+    let mut last = h.last;
+    let mut i = 0;
+    while i < buffer.len() {
+        let x = samples::read(line, from + i);
+        let g = samples::read(line, far + i);
+        let t = take(order, c, v, ahead, x);
+        let y = t.y;
+        if !samples::is_sample(y) {
+            let r = Ran {
+                state: v,
+                last: last,
+                done: i,
+            };
+            return Led { ran: r, next: u };
+        }
+        let s = newest(fed, buffer, i, h.loss, y, last);
+        samples::write(line, at + i, s);
+        samples::write(buffer, i, y);
+        let n = eliminate(coming, e.coefficients, u, g);
+        v = t.state;
+        ahead = t.ahead;
+        u = n;
+        last = y;
+        i = i + 1;
+    }
+    let r = Ran {
+        state: v,
+        last: last,
+        done: i,
+    };
+    Led { ran: r, next: u }
+}
