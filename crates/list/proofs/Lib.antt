@@ -7,3 +7,5 @@ pub mod Put
 pub mod Running
 pub mod Turn
 pub mod Whole
+pub mod Live
+mod LiveInstance

@@ -3,3 +3,4 @@ pub mod Makes
 pub mod Performed
 pub mod Clicks
 pub mod Chain
+pub mod Live

@@ -15,7 +15,7 @@ use Rattle.rule.proofs.Accepted.{accepted-fit}
 abbrev pub Alike : (ℕ → ℤ) → (ℕ → ℤ) → Type 0
 Alike r q = (k : ℕ) → 1 ≤ k → k ≤ 2112 → r k ≡ q k
 
-window-alike : (r q : ℕ → ℤ) (L a : ℕ) → Alike r q → L + a ≤ 2112 → window r L a ≡ window q L a
+pub window-alike : (r q : ℕ → ℤ) (L a : ℕ) → Alike r q → L + a ≤ 2112 → window r L a ≡ window q L a
 window-alike r q L zero e l = refl
 window-alike r q L (suc a) e l = rw (e (L + suc a) (omega arith) l, window-alike r q L a e (omega arith))
 

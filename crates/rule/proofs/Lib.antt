@@ -27,6 +27,12 @@ pub mod Waits
 pub mod Pedal
 mod Twins
 pub mod Withdrawn
+mod Announced
+mod Told
+mod Beside
+pub mod Numbers
+pub mod Many
+pub mod Live
 pub mod Sample
 pub mod Plucks
 mod Loop
@@ -34,3 +40,4 @@ mod Fade
 mod Fading
 pub mod Silence
 mod Instance
+pub mod LiveInstances

@@ -12,3 +12,4 @@ pub mod Demands
 pub mod Asked
 pub mod Literals
 pub mod Silence
+pub mod Live

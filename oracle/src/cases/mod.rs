@@ -44,7 +44,7 @@ pub struct Report {
 
 /// The lists of calls of a console text with what Open returned: "Opening anew begins another
 /// list. A score run opens a voice of its own".
-fn lists_of(text: &[u8]) -> Vec<(Voice, Vec<Call>)> {
+pub fn lists_of(text: &[u8]) -> Vec<(Voice, Vec<Call>)> {
     let (refused, _) = Voice::open(0, 0, 0, 0, 0);
     let mut lists = Vec::new();
     let mut list = (refused, Vec::new());
