@@ -1,12 +1,10 @@
 -- A block's number, what a refused call leaves, and what an accepted block does, in the contracts' terms.
 -- Assumes nothing.
 use mathlib.Core.Path.{_≡_, sym, _∙_}
-use mathlib.Core.Bool.{false}
 use mathlib.Core.List.{List}
-use Prim.Native.Nat.{ℕ, _≤_}
+use Prim.Native.Nat.{ℕ, _≤_, _<_}
 use native.Mathlib.Omega.{arith}
-use borrow.Author.Tests.{eq-eqb, ne-eqb, leb-false}
-use lib.Dec.{leb}
+use borrow.Author.Tests.{eq-eqb, ne-eqb}
 use lib.IntN.{ℤ}
 use lib.ListN.{length}
 use Rattle.integer.specs.Rounding.{M}
@@ -27,9 +25,8 @@ module _ (v : Voice) (xs : List ℤ) (n : ℕ) where
   differ f = sym (refuses .blocks v xs n .differ .1 f)
 
   module _ (e : length xs ≡ n) where
-    pub too-loud : leb (loudest xs) M ≡ false → 10 ≡ number v (block xs n)
-    too-loud f =
-        sym (refuses .blocks v xs n .input .1 (e, λ w. omega (arith, unquiet w, leb-false (loudest xs) M f)))
+    pub too-loud : M < loudest xs → 10 ≡ number v (block xs n)
+    too-loud h = sym (refuses .blocks v xs n .input .1 (e, λ w. omega (arith, unquiet w)))
 
     pub plays : loudest xs ≤ M → 0 ≡ number v (block xs n)
     plays h = sym (refuses .blocks v xs n .accepted .1 (e, quiet xs h))

@@ -1,13 +1,36 @@
-// A block: the input is copied to the output, which is then rendered in place, an output for each input.
+// A block: an output for each input, rendered in place. Zeros that come in need not be copied to the output.
 // Both refusals come before anything is done.
 ghost use mathlib.Core.Path.{_≡_};
+ghost use Prim.Native.Nat.{_≤_};
 ghost use lib.ListN.{length};
+ghost use Rattle.integer.specs.Rounding.{M};
+ghost use Rattle.samples.specs.Samples.{loudest};
 ghost use Rattle.rule.specs.Calls.{block as Block};
+ghost use Rattle.rule.specs.State.{blockAfter, blockOut};
+ghost use Rattle.voice.specs.Struct.{stateOf};
 ghost use Rattle.voice.specs.Valid.{Valid};
 ghost use Rattle.voice.specs.Called.{On, lent};
 use render::render;
+use render::silent;
 use voice::Answer;
 use voice::Head;
+
+// Renders the input, whose largest magnitude is top, into the output, which is as long.
+fn rendered(line: &mut [i32; 2112], head: Head, top: u32, input: &[i32], output: &mut [i32]) -> Head
+    requires { ⌜ Valid head (now line) × (length (now input) ≡ length (now output)) ⌝ }
+    requires { ⌜ (top ≡ loudest (now input)) × (top ≤ M) ⌝ }
+    ensures { λ r. ⌜ stateOf r (now (line .exit))
+        ≡ blockAfter (stateOf head (now (line .entry))) (now (input .entry)) ⌝ }
+    ensures { λ _. ⌜ now (output .exit)
+        ≡ blockOut (stateOf head (now (line .entry))) (now (input .entry)) ⌝ }
+    ensures { λ r. ⌜ Valid r (now (line .exit)) ⌝ }
+{
+    if top == 0 {
+        return silent(line, head, output);
+    }
+    samples::copy(input, output);
+    render(line, head, output)
+}
 
 // A block of samples: an output for each input.
 pub fn block(line: &mut [i32; 2112], head: Head, input: &[i32], output: &mut [i32]) -> Answer
@@ -24,14 +47,14 @@ pub fn block(line: &mut [i32; 2112], head: Head, input: &[i32], output: &mut [i3
             head: head,
         };
     }
-    if !samples::all_samples(input) {
+    let top = samples::loudest(input);
+    if 8_388_607 < top {
         return Answer {
             refusal: refusal::SAMPLE,
             head: head,
         };
     }
-    samples::copy(input, output);
-    let h = render(line, head, output);
+    let h = rendered(line, head, top, input, output);
     Answer {
         refusal: 0,
         head: h,

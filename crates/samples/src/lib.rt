@@ -1,12 +1,12 @@
 // Samples in slices: read, written, copied, and told from other numbers.
 // Contracts read the slice as the list of its numbers.
 ghost use mathlib.Core.Path.{_≡_};
-ghost use Prim.Native.Nat.{_≤_, _<_};
+ghost use Prim.Native.Nat.{_≤_, _<_, max};
 ghost use lib.Dec.{leb};
 ghost use lib.IntN.{pos, natAbs};
 ghost use lib.ListN.{length, getD, set, replicate};
 ghost use Rattle.integer.specs.Rounding.{M};
-ghost use Rattle.samples.specs.Samples.{loudest};
+ghost use Rattle.samples.specs.Samples.{loudest as Loudest};
 use integer::Value;
 
 // The number at place i.
@@ -29,16 +29,37 @@ pub fn write(s: &mut [i32], i: usize, y: Value)
 
 // Every number of the slice is a sample.
 pub fn all_samples(s: &[i32]) -> bool
-    ensures { λ r. ⌜ r ≡ leb (loudest (now (s .entry))) M ⌝ }
+    ensures { λ r. ⌜ r ≡ leb (Loudest (now (s .entry))) M ⌝ }
 {
+    loudest(s) <= 8_388_607
+}
+
+// The largest magnitude of the slice, 0 where it is empty. The loop goes to the end, whatever it meets: so it
+// is compiled to take several numbers at a time.
+pub fn loudest(s: &[i32]) -> u32
+    ensures { λ r. ⌜ r ≡ Loudest (now (s .entry)) ⌝ }
+{
+    let mut top = 0;
     let mut i = 0;
     while i < s.len() {
-        if !is_sample(read(s, i)) {
-            return false;
-        }
+        top = more(top, magnitude(s[i]));
         i = i + 1;
     }
-    true
+    top
+}
+
+// The magnitude of x, which fits as many bits as x has.
+fn magnitude(x: i32) -> u32
+    ensures { λ r. ⌜ r ≡ natAbs x ⌝ }
+{
+    integer::magnitude(x) as u32
+}
+
+// The larger of the two.
+fn more(a: u32, b: u32) -> u32
+    ensures { λ r. ⌜ r ≡ max a b ⌝ }
+{
+    if a < b { b } else { a }
 }
 
 // The number is a sample.
