@@ -8,15 +8,14 @@ use borrow.Author.Tests.{eq-eqb, ne-eqb}
 use lib.Dec.{eqb}
 use lib.IntN.{ℤ}
 use Rattle.rule.specs.Voice.{tuning}
-use Rattle.rule.specs.Calls.{Call, loss, pluck, announce, instant}
+use Rattle.rule.specs.Calls.{Call, announce, instant}
 use Rattle.rule.specs.State.{State, from}
 use Rattle.voice.specs.declared.Head.{Head}
 use Rattle.voice.specs.declared.Answer.{Answer}
 use Rattle.voice.specs.Struct.{stateOf}
 use Rattle.voice.specs.Valid.{Valid}
 use Rattle.voice.specs.Called.{On}
-use Rattle.follow.specs.Follow.{value, stands, lengthTo, delayTo, countOf, change, result, then}
-use Rattle.follow.specs.Follow.{lossCalls, changeCalls, pluckCalls, actCalls}
+use Rattle.follow.specs.Follow.{stands, lengthTo, delayTo, change, result, then, actCalls}
 use Rattle.follow.specs.Does.{Does}
 use Rattle.rule.proofs.Puts.{from-append}
 use Rattle.follow.proofs.Sequence.{result-past, result-one, then-past, then-stops}
@@ -77,18 +76,10 @@ module _ (h : Head) (l : List ℤ) (n : ℕ) (c : Call) where
   part-one f o = rw (ne-eqb n 0 f) (does-one h l o)
 
 -- nothing to set
-pub does-nothing : (r : List ℕ) (h : Head) (l : List ℤ) → Valid h l → stands r 3 ≡ 0 → stands r 1 + stands r 2 ≡ 0
-    → stands r 4 ≡ 0
-    → Does h l (actCalls r (stateOf h l)) (record { refusal = 0; head = h }) l
-unfolding actCalls
-does-nothing r h l g e i j =
-    let v = stateOf h l in
-    let a : Answer = record { refusal = 0; head = h } in
-    does-then (lossCalls r) (then (changeCalls r) (pluckCalls r)) h l a l
-    (part-none h l (stands r 3) (loss (value r 3)) g e) refl a l
-    (does-then (changeCalls r) (pluckCalls r) h l a l
-    (part-none h l (stands r 1 + stands r 2) (change r v) g i) refl a l
-    (part-none h l (stands r 4) (pluck (value r 4) (countOf r) (value r 6)) g j))
+pub no-calls : (r : List ℕ) (v : State) → stands r 3 ≡ 0 → stands r 1 + stands r 2 ≡ 0 → stands r 4 ≡ 0
+    → actCalls r v ≡ []
+unfolding actCalls then
+no-calls r v e i j = rw (eq-eqb (stands r 3) 0 e, eq-eqb (stands r 1 + stands r 2) 0 i, eq-eqb (stands r 4) 0 j)
 
 -- a change, announced or instant
 module _ (r : List ℕ) (v : State) {L d : ℕ} (e : L ≡ lengthTo r v) (i : d ≡ delayTo r v) where

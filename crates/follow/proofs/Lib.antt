@@ -1,3 +1,4 @@
 pub mod Sequence
 pub mod Following
 pub mod Waits
+pub mod Record

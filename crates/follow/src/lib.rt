@@ -1,15 +1,14 @@
-// One record of a score on a voice: its wait, and then what it sets, changes and plucks.
+// One record of a score on a voice, but for its wait: what it sets, changes and plucks.
 // A record is the nine numbers that reading it gives.
 ghost use mathlib.Core.Path.{_≡_};
-ghost use mathlib.Core.Bool.{cond};
-ghost use mathlib.Core.List.{List};
+ghost use mathlib.Core.Bool.{false, cond};
+ghost use mathlib.Core.List.{List, []};
 ghost use lib.Dec.{eqb};
 ghost use lib.IntN.{ℤ};
-ghost use lib.ListN.{length};
-ghost use Rattle.rule.specs.State.{puts};
+ghost use Rattle.rule.specs.State.{State};
 ghost use Rattle.voice.specs.Struct.{stateOf};
 ghost use Rattle.voice.specs.Valid.{Fit, Valid};
-ghost use Rattle.follow.specs.Follow.{value, lossCalls, changeCalls, pluckCalls, actCalls, recordCalls};
+ghost use Rattle.follow.specs.Follow.{lossCalls, changeCalls, pluckCalls, actCalls};
 ghost use Rattle.follow.specs.Does.{Does};
 use record::AMPLITUDE;
 use record::COUNT;
@@ -92,8 +91,18 @@ fn chosen(bit: u32, field: u32, other: u32) -> u32
     if bit == 0 { other } else { field }
 }
 
-// A record but for its wait: G, then the change, then the pluck, until one is refused.
-fn act(line: &[i32; 2112], head: Head, r: &[u32; 9]) -> Answer
+// Whether a record sets anything.
+pub fn sets(r: &[u32; 9]) -> bool
+    ensures { λ b. ⌜ (b ≡ false → (v : State) → actCalls (now (r .entry)) v ≡ []) ⌝ }
+{
+    let map = r[MAP];
+    let changes = bit(map, HAS_LENGTH) + bit(map, HAS_DELAY);
+    let others = bit(map, HAS_LOSS) + bit(map, HAS_AMPLITUDE);
+    changes + others != 0
+}
+
+// What a record sets: G, then the change, then the pluck, until one is refused.
+pub fn act(line: &[i32; 2112], head: Head, r: &[u32; 9]) -> Answer
     requires { ⌜ Valid head (now line) ⌝ }
     ensures { λ a. ⌜ Does head (now (line .entry))
         (actCalls (now (r .entry)) (stateOf head (now (line .entry)))) a (now (line .entry)) ⌝ }
@@ -107,35 +116,4 @@ fn act(line: &[i32; 2112], head: Head, r: &[u32; 9]) -> Answer
         return c;
     }
     pluck(c.head, r)
-}
-
-// The same, at once where the record has nothing to set.
-fn acts(line: &[i32; 2112], head: Head, r: &[u32; 9]) -> Answer
-    requires { ⌜ Valid head (now line) ⌝ }
-    ensures { λ a. ⌜ Does head (now (line .entry))
-        (actCalls (now (r .entry)) (stateOf head (now (line .entry)))) a (now (line .entry)) ⌝ }
-{
-    let map = r[MAP];
-    let changes = bit(map, HAS_LENGTH) + bit(map, HAS_DELAY);
-    let others = bit(map, HAS_LOSS) + bit(map, HAS_AMPLITUDE);
-    if changes + others == 0 {
-        return Answer {
-            refusal: 0,
-            head: head,
-        };
-    }
-    act(line, head, r)
-}
-
-// A record: its wait, over a buffer as long, and then what it sets.
-pub fn follow(line: &mut [i32; 2112], head: Head, r: &[u32; 9], buffer: &mut [i32]) -> Answer
-    requires { ⌜ Valid head (now line) × (length (now buffer) ≡ value (now r) 0) ⌝ }
-    ensures { λ a. ⌜ Does head (now (line .entry))
-        (recordCalls (now (r .entry)) (stateOf head (now (line .entry)))) a (now (line .exit)) ⌝ }
-    ensures { λ _. ⌜ now (buffer .exit)
-        ≡ puts (stateOf head (now (line .entry)))
-        (recordCalls (now (r .entry)) (stateOf head (now (line .entry)))) ⌝ }
-{
-    let h = render::silent(line, head, buffer);
-    acts(line, h, r)
 }

@@ -7,7 +7,6 @@ ghost use Rattle.voice.specs.Valid.{Valid};
 ghost use Rattle.refusal.specs.Returned.{Tests};
 ghost use Rattle.score.specs.Run.{fits};
 ghost use Rattle.score.specs.Played.{PlaysAll, Runs};
-use follow::follow;
 use record::NUMBER;
 use record::WAIT;
 use record::read_record;
@@ -64,16 +63,19 @@ fn play(line: &mut [i32; 2112], mut head: Head, records: &[u8], output: &mut [i3
         }
         let wait = as_length(r[WAIT]);
         let e = done + wait;
-        let a = follow(line, head, &r, &mut output[done..e]);
+        head = render::silent(line, head, &mut output[done..e]);
         done = e;
-        if a.refusal != 0 {
-            return Played {
-                refusal: a.refusal,
-                place: index,
-                written: done,
-            };
+        if follow::sets(&r) {
+            let a = follow::act(line, head, &r);
+            if a.refusal != 0 {
+                return Played {
+                    refusal: a.refusal,
+                    place: index,
+                    written: done,
+                };
+            }
+            head = a.head;
         }
-        head = a.head;
         t = rest;
         index = index + 1;
     }

@@ -1,19 +1,16 @@
 -- `score::play` meets its contract: each turn reads a record and follows it. Proof/Record.antt has the invariant.
 -- Assumes nothing.
 mod Record
-use mathlib.Core.Path.{_≡_, refl, sym, subst, _∙_}
-use mathlib.Core.List.{List}
-use Prim.Native.Nat.{ℕ, _+_, _-_, _<_}
+mod Followed
+use mathlib.Core.Path.{refl}
 use native.Mathlib.Omega.{arith}
 use borrow.Author.Needs.{needs}
-use borrow.Rule.Slice.PartMut.{putMid}
-use lib.ListN.{length}
 use Rattle.voice.specs.Struct.{stateOf}
-use Rattle.score.proofs.Playing.{Playing, begun, all-played, refused}
-use Rattle.score.proofs.Turns.{part-length, stopped, shorter, goes-on}
+use Rattle.score.proofs.Playing.{begun, all-played, refused}
 use Rattle.score.proofs.play.Proof.Record.{Inv-loop, μ-loop, bytes, opened, lent, voice, left, index}
-use Rattle.score.proofs.play.Proof.Record.{done, output, playing, some, number-is, taken, room, wait}
-use Rattle.score.proofs.play.Proof.Record.{place, samples, out-is, ends-at, result-is, state-is, same}
+use Rattle.score.proofs.play.Proof.Record.{done, output, playing, some, number-is, room}
+use Rattle.score.proofs.play.Proof.Followed.{place, same, fewer, ends-with, plays-on, waited, acted}
+use Rattle.score.proofs.play.Proof.Followed.{rendered, followed}
 use Rattle.score.proofs.play.Statement.{statement}
 use Rattle.score.proofs.play.Tie as tie
 
@@ -57,67 +54,45 @@ add-e c = let r = c .before .before in omega (
   r .before .before .before .before .before .before .before .good,
 )
 
-mul-follow : tie.Need-mul-follow Inv-loop μ-loop
-mul-follow c = search needs
+mul-silent : tie.Need-mul-silent Inv-loop μ-loop
+mul-silent c = search needs
 
-sub-follow : tie.Need-sub-follow Inv-loop μ-loop
-sub-follow c = search needs
+sub-silent : tie.Need-sub-silent Inv-loop μ-loop
+sub-silent c = search needs
 
-part-follow-start : tie.Need-part-follow-start Inv-loop μ-loop
-part-follow-start c = search needs
+part-silent-start : tie.Need-part-silent-start Inv-loop μ-loop
+part-silent-start c = search needs
 
-part-follow-end : tie.Need-part-follow-end Inv-loop μ-loop
-part-follow-end c = omega (arith, room (c .before .before))
+part-silent-end : tie.Need-part-silent-end Inv-loop μ-loop
+part-silent-end c = omega (arith, room (c .before))
 
-follow-requires : tie.Need-follow-requires Inv-loop μ-loop
-follow-requires c κs =
-    let a = c .before .before .before in
-    let r = a .before .before in (
-      r .before .before .before .before .before .loop .inv .1,
-      part-length (done r) (output r) (room a) ∙ a .as-length .ensures,
-    )
+silent-requires : tie.Need-silent-requires Inv-loop μ-loop
+silent-requires c κs = c .before .before .before .before .before .before .before .before .before .loop .inv .1
+
+sets-requires : tie.Need-sets-requires Inv-loop μ-loop
+sets-requires c κs = search needs
+
+act-requires : tie.Need-act-requires Inv-loop μ-loop
+act-requires c κs = c .before .before .before .before .before .before .silent .ensures .1 .1
 
 same-length-2 : tie.Need-same-length-2 Inv-loop μ-loop
-same-length-2 c = same (c .before .before .before)
+same-length-2 c = same (waited (c .before .before))
 
 returns-2 : tie.Need-returns-2 Inv-loop μ-loop
-returns-2 c =
-    let f = c .before .before .before in
-    let p = place f in
-    stopped (bytes p) (opened p) (lent p) (voice p) (left p) (index p) (done p) (output p) (playing p)
-    (some p)
-    (taken (wait f)) (samples f) (out-is f) (ends-at f) (result-is f) (c .if2 .taken)
+returns-2 c = let a = c .before .before in ends-with (waited a) (acted a) (c .if3 .taken)
 
 add-index : tie.Need-add-index Inv-loop μ-loop
 add-index c =
-    let p = place (c .before .before .before .before) in
+    let p = place (rendered c) in
     omega (arith, some p, playing p .few, p .before .before .before .before .before .before .before .good)
 
 loop-less : tie.Need-loop-less Inv-loop μ-loop
-loop-less c =
-    let f = c .before .before .before .before in
-    let p = place f in
-    subst (λ (t : List ℕ). length t < length (left p)) (sym (p .before .before .read-record .ensures .1))
-    (shorter (bytes p) (opened p) (lent p) (voice p) (left p) (index p) (done p) (output p) (playing p)
-    (some p)
-    (taken (wait f)) (samples f) (out-is f) (ends-at f))
+loop-less c = fewer (rendered c)
 
 loop-again : tie.Need-loop-again Inv-loop μ-loop
 loop-again c =
-    let f = c .before .before .before .before in
-    let p = place f in
-    let g = goes-on (bytes p) (opened p) (lent p) (voice p) (left p) (index p) (done p) (output p)
-    (playing p) (some p)
-    (taken (wait f)) (samples f) (out-is f) (ends-at f)
-    (sym (result-is f) ∙ c .before .if2 .left) (state-is f) in (
-      subst (λ (t : List ℕ). Playing (bytes p) (opened p) (lent p)
-          (stateOf (f .follow .result .head) (f .follow .last .0)) t
-          (index p + 1) (done p + wait f .as-length .result)
-          (putMid (done p) (done p + wait f .as-length .result - done p) (output p) (samples f)))
-          (sym (p .before .before .read-record .ensures .1)) g,
-      f .follow .ensures .0 .valid,
-      same f,
-    )
+    let f = followed c in
+    (plays-on (rendered c) f refl, f .valid, same (rendered c))
 
 same-length-3 : tie.Need-same-length-3 Inv-loop μ-loop
 same-length-3 c = search needs
@@ -145,11 +120,13 @@ play-spec =
     array-read-as-length
     as-length-requires
     add-e
-    mul-follow
-    sub-follow
-    part-follow-start
-    part-follow-end
-    follow-requires
+    mul-silent
+    sub-silent
+    part-silent-start
+    part-silent-end
+    silent-requires
+    sets-requires
+    act-requires
     same-length-2
     returns-2
     add-index

@@ -1,21 +1,20 @@
--- The loop of `score::play`: the invariant is `Playing`, with a voice that stays valid; and what is known in it of a record,
--- once its number is known, once its wait is, and once it was followed. Assumes nothing.
+-- The loop of `score::play`: the invariant is `Playing`, with a voice that stays valid; and what is known in it of a
+-- record, once its number is known, and once its wait is. Assumes nothing.
 use mathlib.Core.Path.{_≡_, sym, ap, _∙_}
 use mathlib.Core.List.{List, [], _∷_, _++_}
 use Prim.Native.Nat.{ℕ, _+_, _-_, _≤_, _<_}
 use native.Mathlib.Omega.{arith}
-use borrow.Rule.Slice.PartMut.{putMid}
 use lib.IntN.{ℤ}
 use lib.ListN.{length}
 use Rattle.refusal.specs.Limits.{refusal}
-use Rattle.rule.specs.State.{State, from, puts}
+use Rattle.rule.specs.State.{State}
+use Rattle.voice.specs.declared.Head.{Head}
 use Rattle.voice.specs.Struct.{stateOf}
 use Rattle.voice.specs.Valid.{Valid}
 use Rattle.record.specs.Record.{recordLimits, fields}
-use Rattle.follow.specs.Follow.{value, result, recordCalls}
+use Rattle.follow.specs.Follow.{value}
 use Rattle.score.specs.Run.{fits, playLimits}
 use Rattle.score.proofs.Playing.{Playing, read-number, has-room}
-use Rattle.score.proofs.Turns.{still-long}
 use Rattle.score.proofs.play.Tie as tie
 
 abbrev pub Inv-loop : tie.InvT-loop
@@ -39,9 +38,14 @@ module _ (c : tie.After-refused Inv-loop μ-loop) where
   abbrev pub lent : List ℤ
   lent = c .before .before .before .before .before .before .before .args .output .now
 
+  abbrev pub head : Head
+  head = c .before .before .before .before .before .loop .head
+
+  abbrev pub line : List ℤ
+  line = c .before .before .before .before .before .loop .line
+
   abbrev pub voice : State
-  voice = stateOf (c .before .before .before .before .before .loop .head)
-      (c .before .before .before .before .before .loop .line)
+  voice = stateOf head line
 
   abbrev pub left : List ℕ
   left = c .before .before .before .before .before .loop .t .now
@@ -90,41 +94,3 @@ module _ (c : tie.After-as-length Inv-loop μ-loop) where
         playing r .within,
         r .before .before .before .before .before .loop .inv .2,
       )
-
--- ---- a record that was followed
-module _ (c : tie.After-follow Inv-loop μ-loop) where
-  abbrev pub wait : tie.After-as-length Inv-loop μ-loop
-  wait = c .before .before .before .before
-
-  abbrev pub place : tie.After-refused Inv-loop μ-loop
-  place = c .before .before .before .before .before .before
-
-  abbrev pub samples : List ℤ
-  samples = c .follow .last .1 .1 .1 .0
-
-  pub out-is : samples ≡ puts (voice place) (recordCalls (fields (left place)) (voice place))
-  out-is = c .follow .ensures .1 ∙ ap (λ (r : List ℕ). puts (voice place) (recordCalls r (voice place)))
-      (read place)
-
-  pub ends-at : done place + wait .as-length .result ≡ done place + value (fields (left place)) 0
-  ends-at = ap (λ (n : ℕ). done place + n) (wait-is wait)
-
-  pub result-is : c .follow .result .refusal
-      ≡ result (voice place) (recordCalls (fields (left place)) (voice place))
-  result-is =
-      c .follow .ensures .0 .number
-      ∙ ap (λ (r : List ℕ). result (voice place) (recordCalls r (voice place))) (read place)
-
-  pub state-is : stateOf (c .follow .result .head) (c .follow .last .0)
-      ≡ from (voice place) (recordCalls (fields (left place)) (voice place))
-  state-is =
-      c .follow .ensures .0 .state
-      ∙ ap (λ (r : List ℕ). from (voice place) (recordCalls r (voice place))) (read place)
-
-  pub same : length (putMid (done place) (done place + wait .as-length .result - done place) (output place)
-      samples)
-      ≡ length (lent place)
-  same =
-      still-long (bytes place) (opened place) (lent place) (voice place) (left place) (index place)
-      (done place)
-      (output place) (playing place) (some place) (taken wait) samples out-is ends-at
