@@ -1,7 +1,7 @@
 -- Calls on a head and a line: none, one, and some after others.
 -- Assumes nothing.
 use mathlib.Core.Path.{_≡_, refl, sym, ap, subst, _∙_}
-use mathlib.Core.Bool.{cond}
+use mathlib.Core.Bool.{Bool, true, false, cond}
 use mathlib.Core.List.{List, [], _∷_, _++_}
 use Prim.Native.Nat.{ℕ, _+_}
 use borrow.Author.Tests.{eq-eqb, ne-eqb}
@@ -15,7 +15,7 @@ use Rattle.voice.specs.declared.Answer.{Answer}
 use Rattle.voice.specs.Struct.{stateOf}
 use Rattle.voice.specs.Valid.{Valid}
 use Rattle.voice.specs.Called.{On}
-use Rattle.follow.specs.Follow.{stands, lengthTo, delayTo, change, result, then, actCalls}
+use Rattle.follow.specs.Follow.{value, stands, changeTo, change, result, then, actCalls}
 use Rattle.follow.specs.Does.{Does}
 use Rattle.rule.proofs.Puts.{from-append}
 use Rattle.follow.proofs.Sequence.{result-past, result-one, then-past, then-stops}
@@ -79,15 +79,34 @@ module _ (h : Head) (l : List ℤ) (n : ℕ) (c : Call) where
 pub no-calls : (r : List ℕ) (v : State) → stands r 3 ≡ 0 → stands r 1 + stands r 2 ≡ 0 → stands r 4 ≡ 0
     → actCalls r v ≡ []
 unfolding actCalls then
-no-calls r v e i j = rw (eq-eqb (stands r 3) 0 e, eq-eqb (stands r 1 + stands r 2) 0 i, eq-eqb (stands r 4) 0 j)
+no-calls r v e i j =
+    rw (eq-eqb (stands r 3) 0 e, eq-eqb (stands r 1 + stands r 2) 0 i, eq-eqb (stands r 4) 0 j)
 
--- a change, announced or instant
-module _ (r : List ℕ) (v : State) {L d : ℕ} (e : L ≡ lengthTo r v) (i : d ≡ delayTo r v) where
-  pub announced : stands r 7 ≡ 0 → announce (tuning (v .voice .tuning .N) L d) ≡ change r v
-  announced z = rw (e, i, eq-eqb (stands r 7) 0 z)
+-- a change alone
+pub change-alone : (r : List ℕ) (v : State) → stands r 3 ≡ 0 → (stands r 1 + stands r 2 ≡ 0 → ⊥)
+    → stands r 4 ≡ 0
+    → change r v ∷ [] ≡ actCalls r v
+unfolding actCalls then
+change-alone r v e f j =
+    rw (eq-eqb (stands r 3) 0 e, ne-eqb (stands r 1 + stands r 2) 0 f, eq-eqb (stands r 4) 0 j)
+    (ap (λ (cs : List Call). change r v ∷ cs) (none (eqb (result v (change r v ∷ [])) 0)))
+  where
+    none : (b : Bool) → _≡_ {A = List Call} [] (cond b [] [])
+    none true = refl
+    none false = refl
 
-  pub at-once : (stands r 7 ≡ 0 → ⊥) → instant (tuning (v .voice .tuning .N) L d) ≡ change r v
-  at-once f = rw (e, i, ne-eqb (stands r 7) 0 f)
+-- to the L and d that were chosen, announced or instant
+module _ (r : List ℕ) (v : State) where
+  pub tuned : {b L c d : ℕ} → L ≡ cond (eqb b 0) (v .voice .tuning .L) (value r 1) → b ≡ stands r 1
+      → d ≡ cond (eqb c 0) (v .voice .tuning .d) (value r 2) → c ≡ stands r 2
+      → tuning (v .voice .tuning .N) L d ≡ changeTo r v
+  tuned e i j k = rw (e, i, j, k)
+
+  pub announced : stands r 7 ≡ 0 → announce (changeTo r v) ≡ change r v
+  announced z = rw (eq-eqb (stands r 7) 0 z)
+
+  pub at-once : (stands r 7 ≡ 0 → ⊥) → instant (changeTo r v) ≡ change r v
+  at-once f = rw (ne-eqb (stands r 7) 0 f)
 
 pub on-as : {h : Head} {l : List ℤ} {c b : Call} {a : Answer} {k : List ℤ} → On h l c a k → c ≡ b
     → On h l b a k

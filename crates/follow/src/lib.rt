@@ -1,31 +1,31 @@
 // One record of a score on a voice, but for its wait: what it sets, changes and plucks.
 // A record is the nine numbers that reading it gives.
 ghost use mathlib.Core.Path.{_≡_};
-ghost use mathlib.Core.Bool.{false, cond};
+ghost use mathlib.Core.Bool.{false};
 ghost use mathlib.Core.List.{List, []};
-ghost use lib.Dec.{eqb};
 ghost use lib.IntN.{ℤ};
 ghost use Rattle.rule.specs.State.{State};
 ghost use Rattle.voice.specs.Struct.{stateOf};
 ghost use Rattle.voice.specs.Valid.{Fit, Valid};
 ghost use Rattle.follow.specs.Follow.{lossCalls, changeCalls, pluckCalls, actCalls};
 ghost use Rattle.follow.specs.Does.{Does};
+use crate::changes::chosen;
 use record::AMPLITUDE;
 use record::COUNT;
-use record::DELAY;
 use record::HAS_AMPLITUDE;
 use record::HAS_COUNT;
 use record::HAS_DELAY;
 use record::HAS_LENGTH;
 use record::HAS_LOSS;
 use record::INSTANT;
-use record::LENGTH;
 use record::LOSS;
 use record::MAP;
 use record::SEED;
 use record::bit;
 use voice::Answer;
 use voice::Head;
+
+mod changes;
 
 // The samples of a pluck whose count is absent.
 const PLUCK: u32 = 100;
@@ -45,7 +45,7 @@ fn set_loss(head: Head, r: &[u32; 9]) -> Answer
     open::calls::loss(head, r[LOSS])
 }
 
-// Changes L or d, where the record has one of them, to it and the other that is in force. The order is kept.
+// Changes L or d, where the record has one of them.
 fn change(line: &[i32; 2112], head: Head, r: &[u32; 9]) -> Answer
     requires { ⌜ Valid head (now line) ⌝ }
     ensures { λ a. ⌜ Does head (now (line .entry))
@@ -58,13 +58,10 @@ fn change(line: &[i32; 2112], head: Head, r: &[u32; 9]) -> Answer
             head: head,
         };
     }
-    let length = chosen(bit(map, HAS_LENGTH), r[LENGTH], head.filter.tuning.length);
-    let delay = chosen(bit(map, HAS_DELAY), r[DELAY], head.filter.tuning.delay);
     if bit(map, INSTANT) == 0 {
-        return change::announce(head, head.filter.tuning.order, length, delay);
+        return changes::announce(head, r);
     }
-    let c = change::instant(line, head, head.filter.tuning.order, length, delay);
-    c.answer
+    changes::at_once(line, head, r)
 }
 
 // Plucks, where the record has an amplitude, for its count or 100 samples.
@@ -84,25 +81,18 @@ fn pluck(head: Head, r: &[u32; 9]) -> Answer
     open::calls::pluck(head, r[AMPLITUDE], count, r[SEED])
 }
 
-// A field where its bit stands, else the number in its place.
-fn chosen(bit: u32, field: u32, other: u32) -> u32
-    ensures { λ r. ⌜ r ≡ cond (eqb bit 0) other field ⌝ }
-{
-    if bit == 0 { other } else { field }
-}
-
 // Whether a record sets anything.
 pub fn sets(r: &[u32; 9]) -> bool
     ensures { λ b. ⌜ (b ≡ false → (v : State) → actCalls (now (r .entry)) v ≡ []) ⌝ }
 {
     let map = r[MAP];
-    let changes = bit(map, HAS_LENGTH) + bit(map, HAS_DELAY);
+    let change = bit(map, HAS_LENGTH) + bit(map, HAS_DELAY);
     let others = bit(map, HAS_LOSS) + bit(map, HAS_AMPLITUDE);
-    changes + others != 0
+    change + others != 0
 }
 
-// What a record sets: G, then the change, then the pluck, until one is refused.
-pub fn act(line: &[i32; 2112], head: Head, r: &[u32; 9]) -> Answer
+// The parts of a record, where it has them: G, then the change, then the pluck, until one is refused.
+fn parts(line: &[i32; 2112], head: Head, r: &[u32; 9]) -> Answer
     requires { ⌜ Valid head (now line) ⌝ }
     ensures { λ a. ⌜ Does head (now (line .entry))
         (actCalls (now (r .entry)) (stateOf head (now (line .entry)))) a (now (line .entry)) ⌝ }
@@ -116,4 +106,23 @@ pub fn act(line: &[i32; 2112], head: Head, r: &[u32; 9]) -> Answer
         return c;
     }
     pluck(c.head, r)
+}
+
+// What a record sets: its parts, or at once its change where it has no other.
+pub fn act(line: &[i32; 2112], head: Head, r: &[u32; 9]) -> Answer
+    requires { ⌜ Valid head (now line) ⌝ }
+    ensures { λ a. ⌜ Does head (now (line .entry))
+        (actCalls (now (r .entry)) (stateOf head (now (line .entry)))) a (now (line .entry)) ⌝ }
+{
+    let map = r[MAP];
+    if bit(map, HAS_LENGTH) + bit(map, HAS_DELAY) == 0 {
+        return parts(line, head, r);
+    }
+    if bit(map, HAS_LOSS) + bit(map, HAS_AMPLITUDE) != 0 {
+        return parts(line, head, r);
+    }
+    if bit(map, INSTANT) == 0 {
+        return changes::announce(head, r);
+    }
+    changes::at_once(line, head, r)
 }

@@ -1,70 +1,115 @@
--- `follow::act` meets its contract: three parts, one after the other.
+-- `follow::act` meets its contract: the parts of the record, or the one call of a change alone.
 -- Assumes nothing.
+use mathlib.Core.Path.{sym, subst, _∙_}
+use mathlib.Core.List.{List}
+use native.Mathlib.Omega.{arith}
+use Rattle.rule.specs.Calls.{Call}
+use Rattle.voice.specs.declared.Answer.{Answer}
 use Rattle.voice.specs.Struct.{stateOf}
-use Rattle.follow.specs.Follow.{lossCalls, changeCalls, pluckCalls, then, actCalls}
+use Rattle.voice.specs.Called.{On}
+use Rattle.follow.specs.Follow.{change, actCalls}
 use Rattle.follow.specs.Does.{Does}
-use Rattle.follow.proofs.Following.{does-stops, does-then}
+use Rattle.follow.proofs.Following.{does-one, change-alone, announced, at-once, on-as}
 use borrow.Author.Needs.{needs}
 use Rattle.follow.proofs.act.Statement.{statement}
 use Rattle.follow.proofs.act.Tie as tie
 
-losses : (c : tie.After-set-loss) → Does (c .before .args .head) (c .before .args .line .now)
-    (lossCalls (c .before .args .r .now) (stateOf (c .before .args .head) (c .before .args .line .now)))
-    (c .set-loss .result) (c .before .args .line .now)
-losses c = c .set-loss .ensures (c .before .args .line .now) (c .before .pre)
+element-copy-out-map : tie.Need-element-copy-out-map
+element-copy-out-map c = search needs
 
-set-loss-requires : tie.Need-set-loss-requires
-set-loss-requires c κs = search needs
+bit-requires : tie.Need-bit-requires
+bit-requires c κs = search needs
+
+bit-requires-2 : tie.Need-bit-requires-2
+bit-requires-2 c κs = search needs
+
+add-if1 : tie.Need-add-if1
+add-if1 c = search needs
+
+parts-requires : tie.Need-parts-requires
+parts-requires c κs = search needs
 
 returns : tie.Need-returns
-unfolding actCalls
-returns c =
-    let a = c .before .before in
-    let s = a .before .args in
-    let r = s .r .now in
-    does-stops (lossCalls r) (then (changeCalls r) (pluckCalls r)) (s .head) (s .line .now)
-    (a .set-loss .result) (s .line .now)
-    (losses a) (c .if1 .taken)
+returns c = search needs
 
-change-requires : tie.Need-change-requires
-change-requires c κs = losses (c .before .before) .valid
+bit-requires-3 : tie.Need-bit-requires-3
+bit-requires-3 c κs = search needs
+
+bit-requires-4 : tie.Need-bit-requires-4
+bit-requires-4 c κs = search needs
+
+add-if2 : tie.Need-add-if2
+add-if2 c = search needs
+
+parts-requires-2 : tie.Need-parts-requires-2
+parts-requires-2 c κs = search needs
 
 returns-2 : tie.Need-returns-2
-unfolding actCalls
-returns-2 c =
-    let b = c .before .before in
-    let e = b .before in
-    let a = e .before .before in
-    let s = a .before .args in
-    let r = s .r .now in
-    does-then (lossCalls r) (then (changeCalls r) (pluckCalls r)) (s .head) (s .line .now)
-    (a .set-loss .result) (s .line .now)
-    (losses a) (e .if1 .left) (b .change .result) (s .line .now)
-    (does-stops (changeCalls r) (pluckCalls r) (a .set-loss .result .head) (s .line .now)
-    (b .change .result) (s .line .now)
-    (b .change .ensures) (c .if2 .taken))
+returns-2 c = search needs
 
-pluck-requires : tie.Need-pluck-requires
-pluck-requires c κs = search needs
+bit-requires-5 : tie.Need-bit-requires-5
+bit-requires-5 c κs = search needs
+
+-- a change alone, once its manner is known
+module _ (c : tie.After-bit5) where
+  abbrev start : tie.Start
+  start = c .before .before .before .before .before .before .before .before
+
+  made : {a : Answer} → let s = start .args in
+      On (s .head) (s .line .now) (change (s .r .now) (stateOf (s .head) (s .line .now))) a (s .line .now)
+      → Does (s .head) (s .line .now) (actCalls (s .r .now) (stateOf (s .head) (s .line .now))) a
+      (s .line .now)
+  made {a} o =
+      let e = c .before in
+      let f = e .before .before .before in
+      let s = start .args in
+      subst (λ (cs : List Call). Does (s .head) (s .line .now) cs a (s .line .now))
+      (change-alone (s .r .now) (stateOf (s .head) (s .line .now))
+      (omega (arith, e .if2 .left, e .before .before .bit3 .ensures))
+      (λ z. f .if1 .left (omega (arith, z, f .before .bit2 .ensures, f .before .before .bit .ensures)))
+      (omega (arith, e .if2 .left, e .before .bit4 .ensures)))
+      (does-one (s .head) (s .line .now) o)
+
+announce-requires : tie.Need-announce-requires
+announce-requires c κs = search needs
 
 returns-3 : tie.Need-returns-3
-unfolding actCalls
 returns-3 c =
-    let d = c .before in
-    let b = d .before .before in
-    let e = b .before in
-    let a = e .before .before in
-    let s = a .before .args in
-    let r = s .r .now in
-    let l = s .line .now in
-    does-then (lossCalls r) (then (changeCalls r) (pluckCalls r)) (s .head) l (a .set-loss .result) l
-    (losses a) (e .if1 .left)
-    (c .pluck .result) l
-    (does-then (changeCalls r) (pluckCalls r) (a .set-loss .result .head) l (b .change .result) l
-    (b .change .ensures)
-    (d .if2 .left) (c .pluck .result) l (c .pluck .ensures l (b .change .ensures .valid)))
+    let t = c .before .before in
+    let s = start t in
+    let l = s .args .line .now in
+    made t (on-as (c .announce .ensures l (s .pre))
+    (announced (s .args .r .now) (stateOf (s .args .head) l)
+    (sym (t .bit5 .ensures) ∙ c .before .if3 .taken)))
+
+at-once-requires : tie.Need-at-once-requires
+at-once-requires c κs = search needs
+
+returns-4 : tie.Need-returns-4
+returns-4 c =
+    let t = c .before .before in
+    let s = start t .args in
+    made t (on-as (c .at-once .ensures)
+    (at-once (s .r .now) (stateOf (s .head) (s .line .now))
+    (λ z. c .before .if3 .left (t .bit5 .ensures ∙ z))))
 
 pub act-spec : {M : Type 1} → statement M
 act-spec =
     tie.close
-    (tie.spec set-loss-requires returns change-requires returns-2 pluck-requires returns-3)
+    (tie.spec
+    element-copy-out-map
+    bit-requires
+    bit-requires-2
+    add-if1
+    parts-requires
+    returns
+    bit-requires-3
+    bit-requires-4
+    add-if2
+    parts-requires-2
+    returns-2
+    bit-requires-5
+    announce-requires
+    returns-3
+    at-once-requires
+    returns-4)

@@ -1,55 +1,17 @@
 -- `follow::change` meets its contract: no call, an announced change or an instant one.
 -- Assumes nothing.
-use mathlib.Core.Path.{_≡_, sym, ap, _∙_}
-use mathlib.Core.Bool.{cond}
-use mathlib.Core.List.{List}
-use Prim.Native.Nat.{ℕ, _+_}
+use mathlib.Core.Path.{sym, _∙_}
+use Prim.Native.Nat.{_+_}
 use native.Mathlib.Omega.{arith}
-use lib.Dec.{eqb}
-use lib.IntN.{ℤ}
-use Rattle.rule.specs.State.{State}
-use Rattle.voice.specs.declared.Head.{Head}
+use Rattle.voice.specs.declared.Answer.{Answer}
 use Rattle.voice.specs.Struct.{stateOf}
-use Rattle.voice.proofs.Called.{on}
+use Rattle.voice.specs.Called.{On}
 use Rattle.follow.specs.Follow as Run
+use Rattle.follow.specs.Does.{Does}
 use Rattle.follow.proofs.Following.{part-none, part-one, announced, at-once, on-as}
 use borrow.Author.Needs.{needs}
 use Rattle.follow.proofs.change.Statement.{statement}
 use Rattle.follow.proofs.change.Tie as tie
-
-module _ (s : tie.Start) where
-  abbrev head : Head
-  head = s .args .head
-
-  abbrev line : List ℤ
-  line = s .args .line .now
-
-  abbrev fields : List ℕ
-  fields = s .args .r .now
-
-  abbrev voice : State
-  voice = stateOf head line
-
-module _ (c : tie.After-bit5) where
-  abbrev start : tie.Start
-  start = c .before .before .before .before .before .before .before .before .before .before .before
-
-  changes : Run.stands (fields start) 1 + Run.stands (fields start) 2 ≡ 0 → ⊥
-  changes z =
-      let e = c .before .before .before .before .before .before .before in
-      e .if1 .left (omega (arith, z, e .before .bit2 .ensures, e .before .before .bit .ensures))
-
-  length-is : c .before .before .before .before .chosen .result ≡ Run.lengthTo (fields start) (voice start)
-  length-is =
-      c .before .before .before .before .chosen .ensures
-      ∙ ap (λ (n : ℕ). cond (eqb n 0) (head start .filter .tuning .length) (Run.value (fields start) 1))
-      (c .before .before .before .before .before .before .bit3 .ensures)
-
-  delay-is : c .before .chosen2 .result ≡ Run.delayTo (fields start) (voice start)
-  delay-is =
-      c .before .chosen2 .ensures
-      ∙ ap (λ (n : ℕ). cond (eqb n 0) (head start .filter .tuning .delay) (Run.value (fields start) 2))
-      (c .before .before .before .bit4 .ensures)
 
 element-copy-out-map : tie.Need-element-copy-out-map
 element-copy-out-map c = search needs
@@ -74,49 +36,40 @@ returns c =
 bit-requires-3 : tie.Need-bit-requires-3
 bit-requires-3 c κs = search needs
 
-element-copy-out-chosen : tie.Need-element-copy-out-chosen
-element-copy-out-chosen c = search needs
-
-chosen-requires : tie.Need-chosen-requires
-chosen-requires c κs = search needs
-
-bit-requires-4 : tie.Need-bit-requires-4
-bit-requires-4 c κs = search needs
-
-element-copy-out-chosen-2 : tie.Need-element-copy-out-chosen-2
-element-copy-out-chosen-2 c = search needs
-
-chosen-requires-2 : tie.Need-chosen-requires-2
-chosen-requires-2 c κs = search needs
-
-bit-requires-5 : tie.Need-bit-requires-5
-bit-requires-5 c κs = search needs
+-- the call that was made, where L or d stands
+made : (c : tie.After-bit3) {a : Answer} → let s = c .before .before .before .before .before .args in
+    On (s .head) (s .line .now) (Run.change (s .r .now) (stateOf (s .head) (s .line .now))) a (s .line .now)
+    → Does (s .head) (s .line .now) (Run.changeCalls (s .r .now) (stateOf (s .head) (s .line .now))) a
+    (s .line .now)
+made c o =
+    let e = c .before in
+    let b = e .before in
+    let s = b .before .before .before .args in
+    part-one (s .head) (s .line .now) (Run.stands (s .r .now) 1 + Run.stands (s .r .now) 2) _
+    (λ z. e .if1 .left (omega (arith, z, b .bit2 .ensures, b .before .bit .ensures))) o
 
 announce-requires : tie.Need-announce-requires
 announce-requires c κs = search needs
 
 returns-2 : tie.Need-returns-2
 returns-2 c =
-    let a = c .before in
-    let t = a .before in
-    part-one (head (start t)) (line (start t))
-    (Run.stands (fields (start t)) 1 + Run.stands (fields (start t)) 2) _ (changes t)
-    (on-as (on (line (start t)) (c .announce .ensures) (start t .pre .line))
-    (announced (fields (start t)) (voice (start t)) (length-is t) (delay-is t)
-    (sym (t .bit5 .ensures) ∙ a .if2 .taken)))
+    let t = c .before .before in
+    let s = t .before .before .before .before .before in
+    let l = s .args .line .now in
+    made t (on-as (c .announce .ensures l (s .pre))
+    (announced (s .args .r .now) (stateOf (s .args .head) l)
+    (sym (t .bit3 .ensures) ∙ c .before .if2 .taken)))
 
-instant-requires : tie.Need-instant-requires
-instant-requires c κs = search needs
+at-once-requires : tie.Need-at-once-requires
+at-once-requires c κs = search needs
 
 returns-3 : tie.Need-returns-3
 returns-3 c =
-    let a = c .before .before in
-    let t = a .before in
-    part-one (head (start t)) (line (start t))
-    (Run.stands (fields (start t)) 1 + Run.stands (fields (start t)) 2) _ (changes t)
-    (on-as (c .before .instant .ensures .0)
-    (at-once (fields (start t)) (voice (start t)) (length-is t) (delay-is t)
-    (λ z. a .if2 .left (t .bit5 .ensures ∙ z))))
+    let t = c .before .before in
+    let s = t .before .before .before .before .before .args in
+    made t (on-as (c .at-once .ensures)
+    (at-once (s .r .now) (stateOf (s .head) (s .line .now))
+    (λ z. c .before .if2 .left (t .bit3 .ensures ∙ z))))
 
 pub change-spec : {M : Type 1} → statement M
 change-spec =
@@ -128,13 +81,7 @@ change-spec =
     add-if1
     returns
     bit-requires-3
-    element-copy-out-chosen
-    chosen-requires
-    bit-requires-4
-    element-copy-out-chosen-2
-    chosen-requires-2
-    bit-requires-5
     announce-requires
     returns-2
-    instant-requires
+    at-once-requires
     returns-3)

@@ -17,8 +17,8 @@ bit-requires c κs = search needs
 bit-requires-2 : tie.Need-bit-requires-2
 bit-requires-2 c κs = search needs
 
-add-changes : tie.Need-add-changes
-add-changes c = search needs
+add-change : tie.Need-add-change
+add-change c = search needs
 
 bit-requires-3 : tie.Need-bit-requires-3
 bit-requires-3 c κs = search needs
@@ -38,7 +38,8 @@ returns c z v =
     let e = d .before in
     let f = e .before in
     let r = f .before .before .args .r .now in
-    let n = eqb-true (f .bit .result + e .bit2 .result + (d .bit3 .result + c .bit4 .result)) 0 (not-false _ z) in
+    let n = eqb-true (f .bit .result + e .bit2 .result + (d .bit3 .result + c .bit4 .result)) 0
+    (not-false _ z) in
     no-calls r v
     (omega (arith, n, d .bit3 .ensures))
     (omega (arith, n, f .bit .ensures, e .bit2 .ensures))
@@ -51,7 +52,7 @@ sets-spec =
     element-copy-out-map
     bit-requires
     bit-requires-2
-    add-changes
+    add-change
     bit-requires-3
     bit-requires-4
     add-others

@@ -1,5 +1,5 @@
--- `score::play` meets its contract: each turn reads a record and follows it. Proof/Record.antt has the invariant.
--- Assumes nothing.
+-- `score::play` meets its contract: each turn reads a record and follows it. Proof/Record.antt has the
+-- invariant. Assumes nothing.
 mod Record
 mod Followed
 use mathlib.Core.Path.{refl}

@@ -1,5 +1,5 @@
--- A record in the loop of `score::play`, once its wait was rendered, and once it was followed: the run ends with it or
--- goes on. Assumes nothing.
+-- A record in the loop of `score::play`, once its wait was rendered, and once it was followed: the run ends
+-- with it or goes on. Assumes nothing.
 use mathlib.Core.Path.{_≡_, refl, sym, ap, subst, _∙_}
 use mathlib.Core.Logic.{⊎-elim}
 use mathlib.Core.List.{List}
@@ -17,8 +17,9 @@ use Rattle.follow.proofs.Record.{does-as, does-still, record-heard, record-acts
 use Rattle.score.specs.Played.{PlaysAll}
 use Rattle.score.proofs.Playing.{Playing}
 use Rattle.score.proofs.Turns.{part-length, still-long, stopped, shorter, goes-on}
-use Rattle.score.proofs.play.Proof.Record.{Inv-loop, μ-loop, bytes, opened, lent, head, line, voice, left}
-use Rattle.score.proofs.play.Proof.Record.{index, done, output, playing, some, read, taken, wait-is, room}
+use Rattle.score.proofs.play.Proof.Record.{Inv-loop, μ-loop, bytes, opened, lent, head, line, voice}
+use Rattle.score.proofs.play.Proof.Record.{left, index, done, output, playing, some, read, taken}
+use Rattle.score.proofs.play.Proof.Record.{wait-is, room}
 use Rattle.score.proofs.play.Tie as tie
 
 -- ---- a record whose wait was rendered

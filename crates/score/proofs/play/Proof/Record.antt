@@ -1,5 +1,5 @@
--- The loop of `score::play`: the invariant is `Playing`, with a voice that stays valid; and what is known in it of a
--- record, once its number is known, and once its wait is. Assumes nothing.
+-- The loop of `score::play`: the invariant is `Playing`, with a voice that stays valid; and what is known in
+-- it of a record, once its number is known, and once its wait is. Assumes nothing.
 use mathlib.Core.Path.{_≡_, sym, ap, _∙_}
 use mathlib.Core.List.{List, [], _∷_, _++_}
 use Prim.Native.Nat.{ℕ, _+_, _-_, _≤_, _<_}

@@ -1,8 +1,8 @@
--- `follow::chosen` meets its contract.
+-- `follow::changes::chosen` meets its contract.
 -- Assumes nothing.
 use borrow.Author.Tests.{eq-eqb, ne-eqb}
-use Rattle.follow.proofs.chosen.Statement.{statement}
-use Rattle.follow.proofs.chosen.Tie as tie
+use Rattle.follow.proofs.changes.chosen.Statement.{statement}
+use Rattle.follow.proofs.changes.chosen.Tie as tie
 
 returns : tie.Need-returns
 returns c = rw (eq-eqb (c .before .args .bit) 0 (c .if1 .taken))
