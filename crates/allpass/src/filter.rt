@@ -32,7 +32,7 @@ pub struct Taken {
 }
 
 // vN.
-fn oldest(order: u32, v: State) -> Value
+pub fn oldest(order: u32, v: State) -> Value
     requires { ⌜ (1 ≤ order) × (order ≤ orders) ⌝ }
     ensures { λ r. ⌜ r .n ≡ final (pos 0) (held order v) ⌝ }
 {
@@ -68,7 +68,7 @@ fn turned(order: u32, c: Coefficients) -> Coefficients
 }
 
 // w in front of v, and the last number dropped.
-fn shifted(order: u32, v: State, w: Value) -> State
+pub fn shifted(order: u32, v: State, w: Value) -> State
     requires { ⌜ (1 ≤ order) × (order ≤ orders) ⌝ }
     ensures { λ r. ⌜ r ≡ stored (shift (w .n) (held order v)) ⌝ }
 {
@@ -113,7 +113,7 @@ pub fn weighed(order: u32, c: Coefficients, v: State) -> Value
 }
 
 // w, where r is R(A1·v1 + .. + AN·vN).
-fn inner(order: u32, c: Coefficients, v: State, r: Value, f: Value) -> Value
+pub fn inner(order: u32, c: Coefficients, v: State, r: Value, f: Value) -> Value
     requires { ⌜ Fed order c v (f .n) × (r .n ≡ R (dot (taps order c) (held order v))) ⌝ }
     ensures { λ w. ⌜ w .n ≡ Inner (taps order c) (held order v) (f .n) ⌝ }
 {

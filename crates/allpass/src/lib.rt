@@ -1,6 +1,8 @@
 // The allpass filter of order 1, 2 or 3, its eliminator, and the effective length of its response.
 // Contracts cite the filter of order N over lists (specs/Allpass.antt), held in structs (specs/Stored.antt).
 pub mod filter;
+mod multiples;
+pub mod products;
 mod response;
 
 ghost use mathlib.Core.Path.{_≡_};

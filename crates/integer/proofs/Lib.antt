@@ -3,3 +3,4 @@ pub mod Ring
 pub mod Rounding
 pub mod Cut
 mod Quotient
+mod Less

@@ -20,6 +20,8 @@ use crate::input;
 use allpass::filter::eliminate;
 use allpass::filter::take;
 use allpass::filter::weighed;
+use allpass::products::carry;
+use allpass::products::of_state;
 use integer::Value;
 use step::feedback::looped;
 use step::feedback::mixed;
@@ -60,12 +62,12 @@ pub fn idle(
     let c = h.filter.coefficients;
     let at = h.at;
     let mut v = h.filter.state;
-    let mut ahead = weighed(order, c, v);
+    let mut k = of_state(order, c, v);
     let mut last = h.last;
     let mut i = 0;
     while i < buffer.len() {
         let x = samples::read(line, from + i);
-        let t = take(order, c, v, ahead, x);
+        let t = carry(order, c, v, k, x);
         let y = t.y;
         if !samples::is_sample(y) {
             return Ran {
@@ -78,7 +80,7 @@ pub fn idle(
         samples::write(line, at + i, s);
         samples::write(buffer, i, y);
         v = t.state;
-        ahead = t.ahead;
+        k = t.products;
         last = y;
         i = i + 1;
     }

@@ -1,0 +1,75 @@
+-- `allpass::products::entered` meets its contract: by its quotient, or by the sum of two numbers.
+-- Assumes nothing.
+use mathlib.Core.Path.{_≡_, refl, ap, subst, _∙_}
+use Prim.Native.Nat.{ℕ, zero, suc, _≤_}
+use native.Mathlib.Omega.{arith}
+use borrow.Author.Needs.{needs}
+use lib.IntN.{ℤ, pos, natAbs, _+ℤ_, _-ℤ_}
+use mir.Syntax.{w64}
+use mir.Val.{toZ, ofZ}
+use Rattle.integer.specs.Cut.{R}
+use Rattle.integer.proofs.View.{read}
+use Rattle.thiran.specs.Answers.{taps}
+use Rattle.allpass.specs.Allpass.{dot, inner}
+use Rattle.allpass.specs.Stored.{held}
+use Rattle.allpass.specs.Products.{productsOf}
+use Rattle.allpass.specs.declared.products.Products.{Products}
+use Rattle.allpass.proofs.Renewed.{first-sum, older-sum}
+use Rattle.allpass.proofs.Little.{Fits, products-fit}
+use Rattle.allpass.proofs.products.entered.Statement.{statement}
+use Rattle.allpass.proofs.products.entered.Tie as tie
+
+-- ---- order 1
+inner-requires : tie.Need-inner-requires
+inner-requires c κs =
+    let s = c .before .before in
+    let N = s .args .order in
+    let e = ap (λ (k : Products). k .cut) (s .pre .1) in
+    let r = read w64 (s .args .k .cut) (c .struct-told .given .0 .1) e in
+    (s .pre .0, r ∙ first-sum (s .args .c) (s .args .v) N (c .before .if1 .taken))
+
+returns : tie.Need-returns
+returns c = search needs
+
+-- ---- orders 2 and 3
+module _ (c : tie.After-struct-told3) where
+  abbrev start : tie.Start
+  start = c .before .before .before
+
+  abbrev k : Products
+  k = productsOf (start .args .order) (start .args .c) (start .args .v)
+
+  fit : Fits k
+  fit =
+      let f = start .pre .0 in
+      products-fit (start .args .order) (start .args .c) (start .args .v)
+      (f .least) (f .most) (f .taps-small) (f .state-within)
+
+  older-read : toZ w64 (ofZ w64 (start .args .k .older)) ≡ k .older
+  older-read =
+      read w64 (start .args .k .older) (c .before .struct-told2 .given .1 .1 .0 .1)
+      (ap (λ (k : Products). k .older) (start .pre .1))
+
+  newest-read : toZ w64 (ofZ w64 (start .args .k .newest)) ≡ k .newest
+  newest-read =
+      read w64 (start .args .k .newest) (c .struct-told3 .given .1 .0 .1)
+      (ap (λ (k : Products). k .newest) (start .pre .1))
+
+less-requires : tie.Need-less-requires
+less-requires c κs =
+    let s = start c in
+    let n = fit c .newest in
+    (omega (arith, s .pre .0 .sample), rw (older-read c) (fit c .older), rw (newest-read c) (omega (arith, n)))
+
+returns-2 : tie.Need-returns-2
+unfolding inner
+returns-2 c =
+    let t = c .before in
+    let s = start t in
+    let N = s .args .order in
+    let e = rw (older-read t, newest-read t) at (c .less .ensures) in
+    let f = s .pre .0 in
+    e ∙ ap (λ (u : ℤ). s .args .f .n -ℤ R u) (older-sum (s .args .c) (s .args .v) N (omega arith) (f .most))
+
+pub entered-spec : {M : Type 1} → statement M
+entered-spec = tie.close (tie.spec inner-requires returns less-requires returns-2)

@@ -1,0 +1,59 @@
+// Operations on numbers that are small enough, one or two in each function. `less` is the way from a filter's
+// sum of products to its next number, in as few steps as a processor can take.
+ghost use mathlib.Core.Path.{_≡_};
+ghost use Prim.Native.Nat.{_≤_, _^_};
+ghost use lib.IntN.{pos, natAbs, _+ℤ_, _-ℤ_, _*ℤ_};
+ghost use lib.Signed.{ltZ};
+ghost use Rattle.integer.specs.Rounding.{floor};
+ghost use Rattle.integer.specs.Cut.{R};
+use crate::Value;
+
+pub fn times(a: Value, x: Value) -> Value
+    requires { ⌜ (natAbs (a .n) ≤ 2 ^ 16) × (natAbs (x .n) ≤ 2 ^ 24) ⌝ }
+    ensures { λ r. ⌜ r .n ≡ a .n *ℤ x .n ⌝ }
+{
+    Value { n: a.n * x.n }
+}
+
+pub fn plus(x: Value, y: Value) -> Value
+    requires { ⌜ (natAbs (x .n) ≤ 2 ^ 42) × (natAbs (y .n) ≤ 2 ^ 42) ⌝ }
+    ensures { λ r. ⌜ r .n ≡ x .n +ℤ y .n ⌝ }
+{
+    Value { n: x.n + y.n }
+}
+
+pub fn minus(x: Value, y: Value) -> Value
+    requires { ⌜ (natAbs (x .n) ≤ 2 ^ 42) × (natAbs (y .n) ≤ 2 ^ 42) ⌝ }
+    ensures { λ r. ⌜ r .n ≡ x .n -ℤ y .n ⌝ }
+{
+    Value { n: x.n - y.n }
+}
+
+// u / 65,536 downward, which is one shift where the divisor is a literal.
+fn floor_q16(u: Value) -> Value
+    ensures { λ r. ⌜ r .n ≡ floor (u .n) 65536 ⌝ }
+{
+    let q = u.n / 65_536;
+    if u.n % 65_536 < 0 {
+        return Value { n: q - 1 };
+    }
+    Value { n: q }
+}
+
+fn is_below_zero(u: Value) -> bool
+    ensures { λ r. ⌜ r ≡ ltZ (u .n) (pos 0) ⌝ }
+{
+    u.n < 0
+}
+
+// f − R(m + q): of two differences the one that the sum's sign tells, so that only one waits for m.
+pub fn less(f: Value, q: Value, m: Value) -> Value
+    requires { ⌜ (natAbs (f .n) ≤ 2 ^ 24) × (natAbs (q .n) ≤ 2 ^ 40) × (natAbs (m .n) ≤ 2 ^ 40) ⌝ }
+    ensures { λ r. ⌜ r .n ≡ f .n -ℤ R (m .n +ℤ q .n) ⌝ }
+{
+    let p = minus(times(Value { n: 65_536 }, f), q);
+    if is_below_zero(plus(m, q)) {
+        return floor_q16(minus(p, m));
+    }
+    floor_q16(minus(plus(p, Value { n: 65_535 }), m))
+}
