@@ -11,11 +11,12 @@ use lib.IntN.{ℤ}
 use lib.ListN.{length, take, drop, take-append-drop}
 use Rattle.rule.specs.Calls.{Call, commit, withdraw, inputs, number, count}
 use Rattle.rule.specs.State.{State, told, blockOut, put}
+use Rattle.rule.specs.Voice.{Voice}
 use Rattle.rule.proofs.Puts.{put-none}
 use Rattle.voice.specs.declared.Head.{Head}
 use Rattle.voice.specs.Struct.{stateOf, voiceOf}
 use Rattle.voice.specs.declared.Answer.{Answer}
-use Rattle.voice.specs.Called.{On, lent}
+use Rattle.voice.specs.Called.{Called, On, lent}
 use Rattle.change.specs.declared.Changed.{Changed}
 use Rattle.list.specs.Words.{called, last-kind}
 use Rattle.list.specs.Makes.{Makes}
@@ -34,9 +35,14 @@ still (suc (suc (suc (suc (suc (suc (suc zero))))))) a b c xs h k = refl
 still (suc (suc (suc (suc (suc (suc (suc (suc n)))))))) a b c xs h k = absurd (omega arith)
 
 -- the kind is known to be k
-pub known : (h : Head) (l : List ℤ) (a b c : ℕ) (r : Changed) {n : ℕ} (k : ℕ) → n ≡ k
-    → ((xs : List ℤ) → Makes h l (called k a b c xs) r) → (xs : List ℤ) → Makes h l (called n a b c xs) r
-known h l a b c r k e f =
+pub known : (h : Head) (a b c : ℕ) (r : Answer) {n : ℕ} (k : ℕ) → n ≡ k
+    → ((xs : List ℤ) → Called h (called k a b c xs) r) → (xs : List ℤ) → Called h (called n a b c xs) r
+known h a b c r k e f = subst (λ (n : ℕ). (xs : List ℤ) → Called h (called n a b c xs) r) (sym e) f
+
+-- the kind is 4
+pub instantly : (h : Head) (l : List ℤ) (a b c : ℕ) (r : Changed) {n : ℕ} → n ≡ 4
+    → ((xs : List ℤ) → Makes h l (called 4 a b c xs) r) → (xs : List ℤ) → Makes h l (called n a b c xs) r
+instantly h l a b c r e f =
     subst (λ (n : ℕ). (xs : List ℤ) → Makes h l (called n a b c xs) r) (sym e) f
 
 -- what was made of a call that counts nothing
@@ -59,6 +65,25 @@ ending kind a b c xs h =
       ne-eqb kind 4 (λ e. omega arith),
       ne-eqb kind 5 (λ e. omega arith),
     )
+
+ended-counts : (v : Voice) (b : Bool) → count v (cond b commit withdraw) ≡ 0
+unfolding count
+ended-counts v true = refl
+ended-counts v false = refl
+
+-- a call of another kind than 4 counts nothing
+pub counts-none : (v : Voice) (kind a b c : ℕ) (xs : List ℤ) → (kind ≡ 4 → ⊥)
+    → count v (called kind a b c xs) ≡ 0
+unfolding count
+counts-none v zero a b c xs h = refl
+counts-none v (suc zero) a b c xs h = refl
+counts-none v (suc (suc zero)) a b c xs h = refl
+counts-none v (suc (suc (suc zero))) a b c xs h = refl
+counts-none v (suc (suc (suc (suc zero)))) a b c xs h = absurd (h refl)
+counts-none v (suc (suc (suc (suc (suc zero))))) a b c xs h = refl
+counts-none v (suc (suc (suc (suc (suc (suc n)))))) a b c xs h =
+    let k = suc (suc (suc (suc (suc (suc n))))) in
+    subst (λ (f : Call). count v f ≡ 0) (ending k a b c xs (omega arith)) (ended-counts v (eqb k 6))
 
 pub over-still : (v : State) (kind a b c : ℕ) (xs before : List ℤ) → 0 < kind → kind ≤ last-kind
     → before ≡ over (put v (called kind a b c xs)) before

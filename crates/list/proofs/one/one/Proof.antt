@@ -10,10 +10,11 @@ use Rattle.rule.specs.Calls.{Call, block}
 use Rattle.rule.specs.State.{put}
 use Rattle.voice.specs.Struct.{stateOf}
 use Rattle.voice.specs.Called.{On}
+use Rattle.voice.proofs.Called.{on}
 use Rattle.list.specs.declared.words.Item.{Item}
 use Rattle.list.specs.Words.{called, takes, lends}
 use Rattle.samples.specs.Samples.{over}
-use Rattle.list.proofs.Calling.{over-still, over-lent}
+use Rattle.list.proofs.Calling.{instantly, over-still, over-lent}
 use Rattle.list.proofs.one.one.Statement.{statement}
 use Rattle.list.proofs.one.one.Tie as tie
 
@@ -76,17 +77,36 @@ returns c =
           ∙ ap (λ (k : Call). over (put (stateOf (a .head) (a .line .now)) k) (a .output .now)) same,
     )
 
-call-requires : tie.Need-call-requires
-call-requires c κs = search needs
+instant-requires : tie.Need-instant-requires
+instant-requires c κs = search needs
 
 returns-2 : tie.Need-returns-2
 returns-2 c =
     let d = c .before in
-    let e = d .before .before in
+    let t = d .before .before in
+    let e = t .before .before in
+    let s = e .before .before in
+    let a = s .args in
+    let w = a .w in
+    let makes = instantly (a .head) (a .line .now) (w .a) (w .b) (w .c) (d .instant .result) (t .if2 .taken)
+    (λ xs. record { made = d .instant .ensures .0; count = d .instant .ensures .1 }) in (
+      makes (a .input .now) .made,
+      over-still (stateOf (a .head) (a .line .now)) (w .kind) (w .a) (w .b) (w .c) (a .input .now)
+          (a .output .now) (omega (arith, e .if1 .left)) (s .pre .1),
+    )
+
+apart-requires : tie.Need-apart-requires
+apart-requires c κs =
+    let e = c .before .before in
+    (e .before .before .pre .0 .fit, omega (arith, e .if1 .left), c .if2 .left)
+
+returns-3 : tie.Need-returns-3
+returns-3 c =
+    let e = c .before .before .before in
     let s = e .before .before in
     let a = s .args in
     let w = a .w in (
-      d .call .ensures (a .input .now) .made,
+      on (a .line .now) (c .apart .ensures (a .input .now)) (s .pre .0 .line),
       over-still (stateOf (a .head) (a .line .now)) (w .kind) (w .a) (w .b) (w .c) (a .input .now)
           (a .output .now) (omega (arith, e .if1 .left)) (s .pre .1),
     )
@@ -103,5 +123,7 @@ one-spec =
     block-requires
     same-length
     returns
-    call-requires
-    returns-2)
+    instant-requires
+    returns-2
+    apart-requires
+    returns-3)
