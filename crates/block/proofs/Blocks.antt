@@ -1,14 +1,15 @@
--- A block's number, what a refused call leaves, and what an accepted block does, in the contracts' terms.
+-- A block's number, an input of zeros, what a refused call leaves, and what an accepted block does.
 -- Assumes nothing.
-use mathlib.Core.Path.{_≡_, sym, _∙_}
+use mathlib.Core.Path.{_≡_, sym, ap, _∙_}
 use mathlib.Core.List.{List}
 use Prim.Native.Nat.{ℕ, _≤_, _<_}
 use native.Mathlib.Omega.{arith}
 use borrow.Author.Tests.{eq-eqb, ne-eqb}
-use lib.IntN.{ℤ}
-use lib.ListN.{length}
+use lib.IntN.{ℤ, pos}
+use lib.ListN.{length, replicate}
 use Rattle.integer.specs.Rounding.{M}
 use Rattle.samples.specs.Samples.{loudest}
+use Rattle.samples.proofs.Samples.{silence}
 use Rattle.rule.specs.Voice.{Voice}
 use Rattle.rule.specs.Calls.{Call, block, number, done}
 use Rattle.rule.specs.State.{blockAfter, blockOut, put}
@@ -30,6 +31,12 @@ module _ (v : Voice) (xs : List ℤ) (n : ℕ) where
 
     pub plays : loudest xs ≤ M → 0 ≡ number v (block xs n)
     plays h = sym (refuses .blocks v xs n .accepted .1 (e, quiet xs h))
+
+-- ---- an input of zeros: that of a block in which nothing comes in
+pub zeros : (xs : List ℤ) (n : ℕ) → length xs ≡ n → loudest xs ≤ 0 → replicate n (pos 0) ≡ xs
+zeros xs n e h =
+    let z : loudest xs ≡ 0 = omega arith in
+    ap (λ (k : ℕ). replicate k (pos 0)) (sym e) ∙ sym (silence xs z)
 
 -- ---- a refused call
 module _ (h : Head) (l : List ℤ) (c : Call) where

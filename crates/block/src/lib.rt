@@ -15,19 +15,16 @@ use render::silent;
 use voice::Answer;
 use voice::Head;
 
-// Renders the input, whose largest magnitude is top, into the output, which is as long.
-fn rendered(line: &mut [i32; 2112], head: Head, top: u32, input: &[i32], output: &mut [i32]) -> Head
+// Renders the input, of samples alone, into the output, which is as long.
+fn rendered(line: &mut [i32; 2112], head: Head, input: &[i32], output: &mut [i32]) -> Head
     requires { ⌜ Valid head (now line) × (length (now input) ≡ length (now output)) ⌝ }
-    requires { ⌜ (top ≡ loudest (now input)) × (top ≤ M) ⌝ }
+    requires { ⌜ loudest (now input) ≤ M ⌝ }
     ensures { λ r. ⌜ stateOf r (now (line .exit))
         ≡ blockAfter (stateOf head (now (line .entry))) (now (input .entry)) ⌝ }
     ensures { λ _. ⌜ now (output .exit)
         ≡ blockOut (stateOf head (now (line .entry))) (now (input .entry)) ⌝ }
     ensures { λ r. ⌜ Valid r (now (line .exit)) ⌝ }
 {
-    if top == 0 {
-        return silent(line, head, output);
-    }
     samples::copy(input, output);
     render(line, head, output)
 }
@@ -47,14 +44,20 @@ pub fn block(line: &mut [i32; 2112], head: Head, input: &[i32], output: &mut [i3
             head: head,
         };
     }
-    let top = samples::loudest(input);
-    if 8_388_607 < top {
+    if !samples::sounds(input) {
+        let quiet = silent(line, head, output);
+        return Answer {
+            refusal: 0,
+            head: quiet,
+        };
+    }
+    if !samples::all_samples(input) {
         return Answer {
             refusal: refusal::SAMPLE,
             head: head,
         };
     }
-    let h = rendered(line, head, top, input, output);
+    let h = rendered(line, head, input, output);
     Answer {
         refusal: 0,
         head: h,

@@ -29,6 +29,11 @@ zero-only (pos zero) e = refl
 zero-only (pos (suc n)) e = absurd (omega arith)
 zero-only (negsuc n) e = absurd (omega arith)
 
+pub sounding : (x : ℤ) → (x ≡ pos 0 → ⊥) → 0 < natAbs x
+sounding (pos zero) f = absurd (f refl)
+sounding (pos (suc n)) f = omega arith
+sounding (negsuc n) f = omega arith
+
 pub silence : (xs : List ℤ) → loudest xs ≡ 0 → xs ≡ replicate (length xs) (pos 0)
 silence [] e = refl
 silence (x ∷ xs) e =

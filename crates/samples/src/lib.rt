@@ -2,9 +2,9 @@
 // Contracts read the slice as the list of its numbers.
 ghost use mathlib.Core.Path.{_≡_};
 ghost use Prim.Native.Nat.{_≤_, _<_, max};
-ghost use lib.Dec.{leb};
+ghost use lib.Dec.{leb, ltb};
 ghost use lib.IntN.{pos, natAbs};
-ghost use lib.ListN.{length, getD, set, replicate};
+ghost use lib.ListN.{length, getD, set};
 ghost use Rattle.integer.specs.Rounding.{M};
 ghost use Rattle.samples.specs.Samples.{loudest as Loudest};
 use integer::Value;
@@ -48,6 +48,21 @@ pub fn loudest(s: &[i32]) -> u32
     top
 }
 
+// Some number of the slice is not 0. This loop goes to the end too, and does less at each number.
+pub fn sounds(s: &[i32]) -> bool
+    ensures { λ r. ⌜ r ≡ ltb 0 (Loudest (now (s .entry))) ⌝ }
+{
+    let mut some = false;
+    let mut i = 0;
+    while i < s.len() {
+        if s[i] != 0 {
+            some = true;
+        }
+        i = i + 1;
+    }
+    some
+}
+
 // The magnitude of x, which fits as many bits as x has.
 fn magnitude(x: i32) -> u32
     ensures { λ r. ⌜ r ≡ natAbs x ⌝ }
@@ -78,17 +93,6 @@ pub fn copy(input: &[i32], output: &mut [i32])
     while i < input.len() {
         let x = input[i];
         output[i] = x;
-        i = i + 1;
-    }
-}
-
-// Makes every number of the slice 0.
-pub fn clear(s: &mut [i32])
-    ensures { λ _. ⌜ now (s .exit) ≡ replicate (length (now (s .entry))) (pos 0) ⌝ }
-{
-    let mut i = 0;
-    while i < s.len() {
-        s[i] = 0;
         i = i + 1;
     }
 }
