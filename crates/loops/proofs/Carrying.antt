@@ -14,15 +14,17 @@ use Rattle.voice.specs.declared.Filter.{Filter}
 use Rattle.voice.specs.declared.Kind.{Kind}
 use Rattle.voice.specs.declared.Waiting.{Waiting}
 use Rattle.voice.specs.declared.Waiting.the-variants.{Idle, Prepared}
+use Rattle.voice.specs.declared.Pluck.{Pluck}
 use Rattle.voice.specs.declared.Head.{Head}
 use Rattle.voice.specs.Struct.{kindOf, withOf, settledOf}
 use Rattle.voice.specs.Valid.{Valid}
+use Rattle.step.specs.declared.sound.Sounded.{Sounded}
 use Rattle.step.specs.declared.feedback.Circulated.{Circulated}
-use Rattle.step.specs.Sample.{Moved, Settles, Circulates, Steps}
+use Rattle.step.specs.Sample.{Moved, PluckSounds, Settles, Circulates, Steps}
 use Rattle.step.proofs.Silent.{sounds-none}
 use Rattle.step.proofs.Settles.{settles-idle, settles}
 use Rattle.step.proofs.Steps.{heard-fit, steps}
-use Rattle.loops.specs.Carried.{anewOf, carriedOf}
+use Rattle.loops.specs.Carried.{anewOf, leftOf, carriedOf}
 
 -- ---- filters
 pub anew-self : {N : ℕ} (f : Filter) → N ≡ f .tuning .order → anewOf N f (f .state) ≡ f
@@ -35,13 +37,19 @@ carried-self h e w =
     ap (λ (f : Filter). carriedOf h f (h .last) (h .at)) e
     ∙ ap (λ (x : Waiting). withOf h (h .filter) x) (sym w)
 
+-- with p left of a pluck, which gives o
+pub sung-steps : (h : Head) {f : Filter} {y : Value} {p : Pluck} {at : ℕ} {l : List ℤ} {x : ℤ} {o : Sounded}
+    {r : Circulated} {k : List ℤ} → PluckSounds p o
+    → Circulates f (h .loss) (y .n) at l x (o .noise .n) r k → Valid (leftOf h f y p at) l
+    → Steps (leftOf h f y p at) l x
+    (record { y = r .y; head = leftOf h (r .filter) (r .y) (o .rest) (r .at) }) k
+sung-steps h o c v = steps v o c {g = pos 0} tt (settles-idle (heard-fit v o c))
+
 module _ (h : Head) {f : Filter} {y : Value} {at : ℕ} {l : List ℤ} {x : ℤ} {r : Circulated} {k : List ℤ}
     (z : h .pluck .left ≡ 0) (c : Circulates f (h .loss) (y .n) at l x (pos 0) r k) where
   pub quiet-steps : Valid (carriedOf h f y at) l
       → Steps (carriedOf h f y at) l x (record { y = r .y; head = carriedOf h (r .filter) (r .y) (r .at) }) k
-  quiet-steps v =
-      let o = sounds-none (v .fit .pluck) z in
-      steps v o c {g = pos 0} tt (settles-idle (heard-fit v o c))
+  quiet-steps v = sung-steps h (sounds-none (v .fit .pluck) z) c v
 
   -- ---- with a change that waits
   module _ {i : Kind} {e n : Filter} {t : ℕ} (m : Moved e (back (ring at l) (e .tuning .length)) n)

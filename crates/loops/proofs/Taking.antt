@@ -51,11 +51,11 @@ module _ (l : List ℤ) (at : ℕ) (long : length l ≡ 2112) (a : at < 2112) {f
           (tuned-hears t k (sym (clip-kept (y .n) m) ∙ o) j)
 
       -- z is s(n), and goes to place w, which is at; n is the next
-      pub taken-circulates : (G : ℕ) (last g : ℤ) {z : ℤ} {w n : ℕ} {c : List ℤ}
-          → z ≡ clip ((g +ℤ pos 0) +ℤ Q (pos G *ℤ (y .n +ℤ last))) → w ≡ at → n ≡ (at + 1) % 2112
+      pub taken-circulates : (G : ℕ) (last g : ℤ) {noise z : ℤ} {w n : ℕ} {c : List ℤ}
+          → z ≡ clip ((g +ℤ noise) +ℤ Q (pos G *ℤ (y .n +ℤ last))) → w ≡ at → n ≡ (at + 1) % 2112
           → c ≡ set l w z
-          → Circulates f G last at l g (pos 0) (record { y = y; filter = stateTo f s; at = n }) c
-      taken-circulates G last g {z} {w} {n} q u v b = record {
+          → Circulates f G last at l g noise (record { y = y; filter = stateTo f s; at = n }) c
+      taken-circulates G last g {z = z} {w} {n} q u v b = record {
         hears = hears;
         place = omega arith;
         line =

@@ -10,9 +10,11 @@ use Rattle.voice.specs.declared.Kind.{Kind}
 use Rattle.voice.specs.declared.Kind.the-variants.{Announced}
 use Rattle.voice.specs.declared.Waiting.{Waiting}
 use Rattle.voice.specs.declared.Waiting.the-variants.{Idle, Prepared}
+use Rattle.voice.specs.declared.Pluck.{Pluck}
 use Rattle.voice.specs.declared.Head.{Head}
 use Rattle.voice.specs.Struct.{kindOf}
 use Rattle.loops.specs.declared.Ran.{Ran}
+use Rattle.loops.specs.declared.plucked.Sung.{Sung}
 
 -- f with another state, in an order that is its own
 abbrev pub anewOf : ℕ → Filter → State → Filter
@@ -22,22 +24,32 @@ anewOf N f v = record {
   state = v;
 }
 
--- h after some samples in which no pluck sounds; what waits is told beside it
-abbrev pub carriedOf : Head → Filter → Value → ℕ → Head
-carriedOf h f y at = record {
+-- h after some samples, with p left of its pluck; what waits is told beside it
+abbrev pub leftOf : Head → Filter → Value → Pluck → ℕ → Head
+leftOf h f y p at = record {
   filter = f;
   loss = h .loss;
   advance = h .advance;
   last = y;
   waiting = Idle;
-  pluck = h .pluck;
+  pluck = p;
   at = at;
 }
+
+-- the same where no pluck sounds
+abbrev pub carriedOf : Head → Filter → Value → ℕ → Head
+carriedOf h f y at = leftOf h f y (h .pluck) at
 
 -- the head that a loop leaves of h; what waits is told beside it
 abbrev pub ranOf : Head → Ran → Head
 ranOf h r =
     carriedOf h (anewOf (h .filter .tuning .order) (h .filter) (r .state)) (r .last) ((h .at + r .done) % 2112)
+
+-- the head that the loop of a pluck leaves of h, once n samples are done
+abbrev pub sungOf : Head → Sung → ℕ → Head
+sungOf h r n =
+    leftOf h (anewOf (h .filter .tuning .order) (h .filter) (r .state)) (r .last) (r .rest)
+    ((h .at + n) % 2112)
 
 -- the kind of the change that waits, where one does
 abbrev pub kindIn : Waiting → Kind

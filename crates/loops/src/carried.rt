@@ -1,11 +1,12 @@
 // What is kept of a voice in a loop over its samples, and the head that it makes.
 // A filter's order is passed beside it: a loop that is called with a number there is compiled for that order.
 ghost use mathlib.Core.Path.{_≡_};
-ghost use Rattle.loops.specs.Carried.{anewOf, carriedOf};
+ghost use Rattle.loops.specs.Carried.{anewOf, carriedOf, leftOf};
 use allpass::State;
 use integer::Value;
 use voice::Filter;
 use voice::Head;
+use voice::Pluck;
 use voice::Tuning;
 use voice::Waiting;
 
@@ -31,6 +32,21 @@ pub fn carried(h: Head, f: Filter, last: Value, at: usize) -> Head
     ensures { λ r. ⌜ r ≡ carriedOf h f last at ⌝ }
 {
     let p = h.pluck;
+    Head {
+        filter: f,
+        loss: h.loss,
+        advance: h.advance,
+        last: last,
+        waiting: Waiting::Idle,
+        pluck: p,
+        at: at,
+    }
+}
+
+// h after some samples, with p left of its pluck.
+pub fn sung(h: Head, f: Filter, last: Value, p: Pluck, at: usize) -> Head
+    ensures { λ r. ⌜ r ≡ leftOf h f last p at ⌝ }
+{
     Head {
         filter: f,
         loss: h.loss,

@@ -1,5 +1,5 @@
 // The loops over a block's samples while no pluck sounds: with nothing waiting, and with a change that waits.
-// Each renders as many samples of a stretch as it can, and tells how many are done.
+// Each renders as many samples of a stretch as it can, and tells how many are done. `plucked` has a pluck's.
 ghost use mathlib.Core.Path.{_≡_};
 ghost use Prim.Native.Nat.{_+_, _≤_, _<_, min};
 ghost use lib.ListN.{length};
@@ -24,6 +24,7 @@ use voice::settle;
 
 mod carried;
 mod orders;
+pub mod plucked;
 mod run;
 
 // A voice once the first samples of a buffer are rendered, so many as are done.

@@ -8,19 +8,22 @@ ghost use lib.ListN.{length, replicate};
 ghost use Rattle.integer.specs.Rounding.{M};
 ghost use Rattle.samples.specs.Samples.{loudest};
 ghost use Rattle.rule.specs.State.{blockAfter, blockOut};
-ghost use Rattle.rule.specs.Voice.{announced};
-ghost use Rattle.voice.specs.Struct.{kindOf, stateOf};
+ghost use Rattle.voice.specs.Struct.{stateOf};
 ghost use Rattle.voice.specs.Valid.{Valid};
 ghost use Rattle.loops.specs.Fed.{fedOf};
 ghost use Rattle.loops.specs.Rendered.{Went};
+use crate::reach::reach;
+use crate::reach::sung;
 use loops::Progress;
 use loops::input;
+use loops::plucked::while_plucked;
 use loops::while_idle;
 use loops::while_waiting;
 use step::step;
 use voice::Head;
-use voice::Kind;
 use voice::Waiting;
+
+mod reach;
 
 // Renders samples until no pluck sounds, one at least; a change may wait.
 fn sounding(line: &mut [i32; 2112], fed: bool, mut head: Head, buffer: &mut [i32]) -> Progress
@@ -49,22 +52,6 @@ fn sounding(line: &mut [i32; 2112], fed: bool, mut head: Head, buffer: &mut [i32
     }
 }
 
-fn smaller(a: usize, b: usize) -> usize
-    ensures { λ r. ⌜ (r ≤ a) × (r ≤ b) ⌝ }
-{
-    if a < b { a } else { b }
-}
-
-// How many of n samples a change of this kind waits for, if an announced one waits for so many more.
-fn reach(kind: Kind, n: usize, left: usize) -> usize
-    ensures { λ r. ⌜ (r ≤ n) × (kindOf kind ≡ announced → r ≤ left) ⌝ }
-{
-    match kind {
-        Kind::Announced => smaller(n, left),
-        Kind::Asked => n,
-    }
-}
-
 // Renders samples while no pluck sounds, as many as one loop can.
 fn quiet(line: &mut [i32; 2112], fed: bool, h: Head, buffer: &mut [i32]) -> Progress
     requires { ⌜ Valid h (now line) × (loudest (fedOf fed 0 (now buffer)) ≤ M) ⌝ }
@@ -86,6 +73,20 @@ fn quiet(line: &mut [i32; 2112], fed: bool, h: Head, buffer: &mut [i32]) -> Prog
     }
 }
 
+// Renders samples while a pluck sounds, or one that is to be clipped; one at least.
+fn loud(line: &mut [i32; 2112], fed: bool, h: Head, buffer: &mut [i32]) -> Progress
+    requires { ⌜ Valid h (now line) × (loudest (fedOf fed 0 (now buffer)) ≤ M) ⌝ }
+    ensures { λ r. ⌜ Went fed (now (buffer .entry)) h (now (line .entry)) (now (buffer .exit)) (r .head)
+        (now (line .exit)) (r .done) ⌝ }
+    ensures { λ r. ⌜ (0 < length (now (buffer .entry)) → 0 < r .done) ⌝ }
+{
+    let k = sung(h, buffer.len());
+    if k == 0 {
+        return sounding(line, fed, h, buffer);
+    }
+    while_plucked(line, fed, h, &mut buffer[..k])
+}
+
 // Renders as many samples as one loop can, one at least.
 fn stretch(line: &mut [i32; 2112], fed: bool, h: Head, buffer: &mut [i32]) -> Progress
     requires { ⌜ Valid h (now line) × (loudest (fedOf fed 0 (now buffer)) ≤ M) ⌝ }
@@ -97,7 +98,7 @@ fn stretch(line: &mut [i32; 2112], fed: bool, h: Head, buffer: &mut [i32]) -> Pr
     if p.done != 0 {
         return p;
     }
-    sounding(line, fed, p.head, buffer)
+    loud(line, fed, p.head, buffer)
 }
 
 // Each sample of the buffer is an input where one is fed, else 0 comes in, and becomes the output.

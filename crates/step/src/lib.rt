@@ -9,7 +9,7 @@ ghost use Rattle.step.specs.Sample.{Settles, Steps, previewed};
 
 pub mod feedback;
 pub mod filter;
-mod sound;
+pub mod sound;
 
 use feedback::circulate;
 use filter::moved;

@@ -1,4 +1,4 @@
--- `render::stretch` meets its contract: where no sample is rendered while no pluck sounds, one is stepped.
+-- `render::stretch` meets its contract: where `quiet` renders no sample, `loud` renders one.
 -- Assumes nothing.
 use mathlib.Core.Path.{_≡_, subst}
 use Prim.Native.Nat.{ℕ}
@@ -43,15 +43,15 @@ module _ (c : tie.Else1) where
       (c .if1 .left)
       (q .ensures)
 
-sounding-requires : tie.Need-sounding-requires
-sounding-requires c κs = let n = none (c .before .before) in (n .1, n .0 .quiet)
+loud-requires : tie.Need-loud-requires
+loud-requires c κs = let n = none (c .before .before) in (n .1, n .0 .quiet)
 
 same-length-2 : tie.Need-same-length-2
 same-length-2 c = search needs
 
 returns-2 : tie.Need-returns-2
 returns-2 c =
-    let o = c .before .sounding .ensures in
+    let o = c .before .loud .ensures in
     let e = c .before .before .before .before in
     let n = none e in
     let s = start e .args in
@@ -60,4 +60,4 @@ returns-2 c =
 
 pub stretch-spec : {M : Type 1} → statement M
 stretch-spec =
-    tie.close (tie.spec quiet-requires same-length returns sounding-requires same-length-2 returns-2)
+    tie.close (tie.spec quiet-requires same-length returns loud-requires same-length-2 returns-2)

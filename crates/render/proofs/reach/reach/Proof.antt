@@ -1,12 +1,12 @@
--- `render::reach` meets its contract: by the kind.
+-- `render::reach::reach` meets its contract: by the kind.
 -- Assumes nothing.
 use mathlib.Core.Path.{ap}
 use native.Mathlib.Omega.{arith}
 use borrow.Author.Needs.{needs}
 use Rattle.rule.proofs.Keeps.{announced-asked}
 use Rattle.voice.specs.Struct.{kindOf}
-use Rattle.render.proofs.reach.Statement.{statement}
-use Rattle.render.proofs.reach.Tie as tie
+use Rattle.render.proofs.reach.reach.Statement.{statement}
+use Rattle.render.proofs.reach.reach.Tie as tie
 
 enum-told : tie.Need-enum-told
 enum-told c = search needs
