@@ -7,7 +7,7 @@
 #include <string.h>
 #include <time.h>
 
-enum { ROUNDS = 20, RUNS = 15, SAMPLES = 1 << 17 };
+enum { ROUNDS = 20, RUNS = 15 };
 
 /* A score is short enough to be played within one turn that the system gives a program. */
 static uint8_t score[1 << 18];
@@ -34,7 +34,7 @@ static double run(int which, Played *p)
 static double perform(int which, Played *p)
 {
     double from = seconds();
-    perform_list(which, output[which], SAMPLES, p);
+    perform_list(which, output[which], p);
     return seconds() - from;
 }
 
@@ -73,17 +73,17 @@ static Played once;
 
 static void run_once(void) { jivaszte_run(score, score_length, output[1], SAMPLES, &once.place, &once.written); }
 
-static void perform_once(void) { perform_list(1, output[1], SAMPLES, &once); }
+static void perform_once(void) { perform_list(1, output[1], &once); }
 
 /* One more round of a row: whether the two agree, and on what was played to its end, without a refusal, and sounds. */
 static int again(Row *r)
 {
     Played p;
-    int listed = r->change == ASKED_CHANGE || r->to != r->order;
+    int listed = r->group != SCORE;
     if (listed)
-        make_list(r->order, r->to, r->change, r->wait, SAMPLES);
+        make_list(r);
     else
-        score_length = make_score(score, r->order, r->change, r->wait, SAMPLES);
+        score_length = make_score(score, r);
     double best[2] = { 0, 0 };
     int same = best_of(listed ? perform : run, best, &p);
     for (int k = 0; k < 2; k++)

@@ -1,14 +1,25 @@
-/* The lists of calls that bench.c times, made for jivaszte_perform and for plain C alike: scores can neither ask nor change
-   the order. */
+/* The lists of calls that bench.c times, made for jivaszte_perform and for plain C alike: scores have no input, and can
+   neither ask nor change the order. */
 #include "../include/jivaszte.h"
 #include "bench.h"
 #include "plain.h"
 
-enum { CALLS = 1 << 13, INPUT = 1 << 17, ADVANCE = 64 };
+enum { CALLS = 1 + 3 * (SAMPLES / LEAST_WAIT), ADVANCE = 64, LOUDEST = 999 };
 
 static uint32_t words[4 * CALLS], numbers[2][CALLS], list_order;
 static size_t count;
-static int32_t input[INPUT];
+static int32_t silence[SAMPLES], quiet[SAMPLES];
+static const int32_t *input;
+
+/* Samples of a fixed sequence, from -999 to 999. */
+static void make_quiet(void)
+{
+    uint32_t state = 1;
+    for (size_t i = 0; i < SAMPLES; i++) {
+        state = 1664525 * state + 1013904223;
+        quiet[i] = (int32_t)((state >> 8) % (2 * LOUDEST + 1)) - LOUDEST;
+    }
+}
 
 static void add(uint32_t kind, uint32_t a, uint32_t b, uint32_t c)
 {
@@ -17,28 +28,31 @@ static void add(uint32_t kind, uint32_t a, uint32_t b, uint32_t c)
         words[count++] = call[k];
 }
 
-void make_list(uint32_t order, uint32_t to, int change, uint32_t wait, size_t samples)
+void make_list(const Row *r)
 {
     static const uint32_t kinds[] = { 0, JIVASZTE_CALL_ANNOUNCE, JIVASZTE_CALL_INSTANT, JIVASZTE_CALL_ASK };
-    list_order = order;
+    list_order = r->order;
     count = 0;
+    make_quiet();
+    input = r->group == FED ? quiet : silence;
     add(JIVASZTE_CALL_PLUCK, 255, 2048, 0);
     int other = 1;
-    for (size_t done = 0; done + wait <= samples; done += wait, other = !other) {
-        uint32_t named = other ? to : order;
-        add(kinds[change], named, lengths[other], delays[named - 1][other]);
-        add(JIVASZTE_CALL_BLOCK, wait, wait, 0);
-        if (change == ASKED_CHANGE)
+    for (size_t done = 0; done + r->wait <= SAMPLES; done += r->wait, other = !other) {
+        uint32_t named = other ? r->to : r->order;
+        if (r->change != NO_CHANGE)
+            add(kinds[r->change], named, lengths[other], delays[named - 1][other]);
+        add(JIVASZTE_CALL_BLOCK, r->wait, r->wait, 0);
+        if (r->change == ASKED_CHANGE)
             add(JIVASZTE_CALL_COMMIT, 0, 0, 0);
     }
 }
 
-void perform_list(int which, int32_t *output, size_t room, Played *p)
+void perform_list(int which, int32_t *output, Played *p)
 {
     uint32_t opening;
     p->refusal = (which ? jivaszte_perform : plain_perform)(
-        list_order, lengths[0], delays[list_order - 1][0], 65535, ADVANCE, words, count, input, INPUT, output, room,
-        numbers[which], CALLS, &opening, &p->written);
+        list_order, lengths[0], delays[list_order - 1][0], 65535, ADVANCE, words, count, input, SAMPLES, output,
+        SAMPLES, numbers[which], CALLS, &opening, &p->written);
     p->place = opening;
     for (size_t i = 0; i < count / 4; i++)
         p->place += numbers[which][i];

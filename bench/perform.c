@@ -20,14 +20,34 @@ static int formed(const uint32_t *words, size_t count, size_t samples, size_t ro
     return 1;
 }
 
+/* Whether anything comes in; an input that sounds seldom starts with 0. Each scan by itself was faster than both in one
+   loop, and than both in the block, where gcc puts them together. */
+static __attribute__((noinline)) int any(const int32_t *input, uint32_t samples)
+{
+    if (samples > 0 && input[0] != 0)
+        return 1;
+    int32_t any = 0;
+    for (uint32_t i = 0; i < samples; i++)
+        any |= input[i];
+    return any != 0;
+}
+
+/* Whether a sample is outside the range. */
+static __attribute__((noinline)) int loud(const int32_t *input, uint32_t samples)
+{
+    int loud = 0;
+    for (uint32_t i = 0; i < samples; i++)
+        loud |= input[i] < -MOST || input[i] > MOST;
+    return loud;
+}
+
 static uint32_t block(Voice *v, const int32_t *input, uint32_t samples, int32_t *output, uint32_t room)
 {
     if (samples != room)
         return 9;
-    int loud = 0;
-    for (uint32_t i = 0; i < samples; i++)
-        loud |= input[i] < -MOST || input[i] > MOST;
-    if (loud)
+    if (!any(input, samples))
+        input = NULL;
+    else if (loud(input, samples))
         return 10;
     render(v, input, output, samples);
     return 0;

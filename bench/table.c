@@ -2,29 +2,38 @@
 #include "bench.h"
 #include <stdio.h>
 
-static Row row(uint32_t order, uint32_t to, int change, uint32_t wait)
+static const uint32_t waits[WAITS] = { LEAST_WAIT, 1024, 65535 };
+
+/* One row for each of the waits from a first one to a last one; returns the place after them. */
+static Row *add_rows(Row *rows, int group, uint32_t order, uint32_t to, int change, int first, int last)
 {
-    return (Row){ .order = order, .to = to, .change = change, .wait = wait, .agree = 1 };
+    for (int i = first; i <= last; i++)
+        *rows++ = (Row){ .group = group, .order = order, .to = to, .change = change, .wait = waits[i], .agree = 1 };
+    return rows;
 }
 
 void make_rows(Row *rows)
 {
-    static const uint32_t waits[WAITS] = { 64, 1024, 65535 }, pairs[PAIRS][2] = { { 1, 2 }, { 1, 3 }, { 2, 3 } };
+    static const uint32_t pairs[PAIRS][2] = { { 1, 2 }, { 1, 3 }, { 2, 3 } };
     for (int change = NO_CHANGE; change <= INSTANT_CHANGE; change++)
         for (uint32_t order = 1; order <= ORDERS; order++)
-            for (int i = 0; i < WAITS; i++)
-                *rows++ = row(order, order, change, waits[i]);
+            rows = add_rows(rows, SCORE, order, order, change, 0, 2);
     for (uint32_t order = 1; order <= ORDERS; order++)
-        *rows++ = row(order, order, ASKED_CHANGE, waits[1]);
+        rows = add_rows(rows, SILENCE, order, order, NO_CHANGE, 0, 1);
+    for (uint32_t order = 1; order <= ORDERS; order++)
+        rows = add_rows(rows, FED, order, order, NO_CHANGE, 1, 1);
+    for (uint32_t order = 1; order <= ORDERS; order++)
+        rows = add_rows(rows, ASK, order, order, ASKED_CHANGE, 0, 2);
     for (int change = ANNOUNCED_CHANGE; change <= ASKED_CHANGE; change++)
         for (int i = 0; i < PAIRS; i++)
-            *rows++ = row(pairs[i][0], pairs[i][1], change, waits[1]);
+            rows = add_rows(rows, ORDER, pairs[i][0], pairs[i][1], change, 0, 2);
 }
 
 static void print_row(const Row *r)
 {
     static const char *const changes[] = { "none", "announced", "instant", "asked" };
-    printf("| %u", r->order);
+    static const char *const by[GROUPS] = { "score", "blocks", "blocks with input", "blocks", "blocks" };
+    printf("| %s | %u", by[r->group], r->order);
     if (r->to != r->order)
         printf(", %u", r->to);
     printf(" | %s | %u | %.0f | %.0f | %.2f | %.2f to %.2f | %zu | %s |\n", changes[r->change], r->wait,
@@ -43,27 +52,35 @@ static void print_costs(const Row *none, const Row *announced, const Row *instan
     }
 }
 
-/* The least ratio of the rows from one to before another, at waits of 64 or of more. */
-static double least(const Row *from, const Row *to, int more)
+/* Prints the least ratio of a group's rows at waits of 64 or of more, if there are any. */
+static void print_least(const Row *rows, int group, int more)
 {
     double least = 1e9;
-    for (const Row *r = from; r < to; r++)
-        if ((r->wait > 64) == more && r->best[0] / r->best[1] < least)
+    for (const Row *r = rows; r < rows + ROWS; r++)
+        if (r->group == group && (r->wait > LEAST_WAIT) == more && r->best[0] / r->best[1] < least)
             least = r->best[0] / r->best[1];
-    return least;
+    if (least < 1e9)
+        printf(" %.3f |", least);
+    else
+        printf(" |");
 }
 
 void print_rows(const Row *rows)
 {
-    printf("| order | changes | wait | C, million samples a second | proved | ratio | in the rounds | bytes of stack | all "
-           "agree |\n");
-    printf("|---|---|---|---|---|---|---|---|---|\n");
+    static const char *const names[GROUPS] = { "scores", "blocks with no change", "blocks with input",
+                                               "blocks with an asked change", "blocks with changes of the order" };
+    printf("| by | order | changes | wait | C, million samples a second | proved | ratio | in the rounds | "
+           "bytes of stack | all agree |\n");
+    printf("|---|---|---|---|---|---|---|---|---|---|\n");
     for (int i = 0; i < ROWS; i++)
         print_row(&rows[i]);
-    printf("\nleast ratio at waits of 64: %.3f; of 1,024 and more: %.3f; with an asked change: %.3f; with changes of the "
-           "order: %.3f\n",
-           least(rows, rows + SCORES, 0), least(rows, rows + SCORES, 1), least(rows + SCORES, rows + ASKS, 1),
-           least(rows + ASKS, rows + ROWS, 1));
+    printf("\n| least ratio of | at waits of 64 | of 1,024 and more |\n|---|---|---|\n");
+    for (int group = 0; group < GROUPS; group++) {
+        printf("| %s |", names[group]);
+        print_least(rows, group, 0);
+        print_least(rows, group, 1);
+        printf("\n");
+    }
     printf("\n| order | nanoseconds of | a sample | a record | an announced change | an instant change |\n");
     printf("|---|---|---|---|---|---|\n");
     for (const Row *none = rows; none < rows + WAITS * ORDERS; none += WAITS)
