@@ -73,7 +73,7 @@ fn quiet(line: &mut [i32; 2112], fed: bool, h: Head, buffer: &mut [i32]) -> Prog
     }
 }
 
-// Renders samples while a pluck sounds, or one that is to be clipped; one at least.
+// Renders samples while a pluck sounds, or where one is to be clipped; one at least.
 fn loud(line: &mut [i32; 2112], fed: bool, h: Head, buffer: &mut [i32]) -> Progress
     requires { ⌜ Valid h (now line) × (loudest (fedOf fed 0 (now buffer)) ≤ M) ⌝ }
     ensures { λ r. ⌜ Went fed (now (buffer .entry)) h (now (line .entry)) (now (buffer .exit)) (r .head)

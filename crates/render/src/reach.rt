@@ -27,7 +27,18 @@ pub fn reach(kind: Kind, n: usize, left: usize) -> usize
     }
 }
 
-// How many of n samples the loop of a pluck can render: none where no pluck sounds or a change waits.
+// The samples that the loop of a pluck, which clips, renders at once where none sounds and one is to be clipped.
+const CLIPPED: u32 = 64;
+
+// What is left of a pluck, or so many samples where none sounds.
+fn few(left: u32) -> u32
+    ensures { λ r. ⌜ 0 < r ⌝ }
+{
+    if left == 0 { CLIPPED } else { left }
+}
+
+// How many of n samples the loop of a pluck is to render: what is left of a pluck, or a few; none where a change
+// waits.
 pub fn sung(h: Head, n: usize) -> usize
     requires { ⌜ Fit h ⌝ }
     ensures { λ r. ⌜ (r ≤ n) × Apart (h .at) (h .filter .tuning .length) r × (0 < r → h .waiting ≡ Idle) ⌝ }
@@ -36,7 +47,7 @@ pub fn sung(h: Head, n: usize) -> usize
     match w {
         Waiting::Idle => {
             let m = line::room(h.at, h.filter.tuning.length as usize, n);
-            smaller(m, h.pluck.left as usize)
+            smaller(m, few(h.pluck.left) as usize)
         }
         Waiting::Prepared(_, _, _) => 0,
     }

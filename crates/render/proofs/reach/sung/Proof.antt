@@ -14,6 +14,9 @@ cast-room c = search needs
 room-requires : tie.Need-room-requires
 room-requires c κs = search needs
 
+few-requires : tie.Need-few-requires
+few-requires c κs = search needs
+
 cast-smaller : tie.Need-cast-smaller
 cast-smaller c = search needs
 
@@ -38,6 +41,7 @@ sung-spec =
     enum-told
     cast-room
     room-requires
+    few-requires
     cast-smaller
     smaller-requires
     enum-told-2
