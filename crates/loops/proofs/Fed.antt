@@ -97,3 +97,12 @@ pub fed-append : (fed : Bool) (i : ℕ) (b c : List ℤ) → i ≤ length b
     → fedOf fed i (b ++ c) ≡ fedOf fed i b ++ fedOf fed 0 c
 fed-append true i b c h = refl
 fed-append false i b c h = cleared-append i b c h
+
+cleared-take : (i : ℕ) (b : List ℤ) → take i (cleared i b) ≡ take i b
+cleared-take i [] = refl
+cleared-take zero (x ∷ b) = refl
+cleared-take (suc i) (x ∷ b) = ap (λ (l : List ℤ). x ∷ l) (cleared-take i b)
+
+pub fed-take : (fed : Bool) (i : ℕ) (b : List ℤ) → take i (fedOf fed i b) ≡ take i b
+fed-take true i b = refl
+fed-take false i b = cleared-take i b

@@ -1,28 +1,25 @@
 // The loops over a block's samples while no pluck sounds: with nothing waiting, and with a change that waits.
 // Each renders as many samples of a stretch as it can, and tells how many are done. `plucked` has a pluck's.
 ghost use mathlib.Core.Path.{_≡_};
-ghost use Prim.Native.Nat.{_+_, _≤_, _<_, min};
+ghost use Prim.Native.Nat.{_+_, _≤_, _<_};
 ghost use lib.ListN.{length};
 ghost use Rattle.integer.specs.Rounding.{M};
 ghost use Rattle.samples.specs.Samples.{loudest};
 ghost use Rattle.line.specs.Ring.{Apart};
 ghost use Rattle.voice.specs.declared.Waiting.the-variants.{Idle, Prepared};
 ghost use Rattle.voice.specs.Valid.{Valid};
-ghost use Rattle.loops.specs.Carried.{Lasts};
+ghost use Rattle.loops.specs.Carried.{afterOf, kindIn, Lasts};
 ghost use Rattle.loops.specs.Fed.{fedOf, inputOf};
 ghost use Rattle.loops.specs.Rendered.{Went};
-use crate::carried::anew;
-use crate::carried::carried;
 use crate::orders::by_order;
 use crate::orders::by_orders;
 use allpass::State;
+use allpass::at_rest;
 use integer::Value;
 use voice::Filter;
 use voice::Head;
-use voice::Kind;
-use voice::settle;
 
-mod carried;
+pub mod carried;
 mod orders;
 pub mod plucked;
 mod run;
@@ -40,7 +37,7 @@ pub struct Ran {
     pub done: usize,
 }
 
-// The same with the state of an eliminator.
+// The same with the state of an eliminator, 0 where none runs.
 pub struct Led {
     pub ran: Ran,
     pub next: State,
@@ -58,38 +55,17 @@ pub fn input(fed: bool, buffer: &[i32], i: usize) -> Value
 }
 
 // Renders samples of the buffer while nothing waits.
-pub fn while_idle(line: &mut [i32; 2112], fed: bool, h: Head, buffer: &mut [i32]) -> Progress
+pub fn while_idle(line: &mut [i32; 2112], fed: bool, h: Head, buffer: &mut [i32]) -> Led
     requires { ⌜ Valid h (now line) × (loudest (fedOf fed 0 (now buffer)) ≤ M) ⌝ }
     requires { ⌜ (h .waiting ≡ Idle) × (h .pluck .left ≡ 0)
         × Apart (h .at) (h .filter .tuning .length) (length (now buffer)) ⌝ }
-    ensures { λ r. ⌜ Went fed (now (buffer .entry)) h (now (line .entry)) (now (buffer .exit)) (r .head)
-        (now (line .exit)) (r .done) ⌝ }
+    ensures { λ r. ⌜ Went fed (now (buffer .entry)) h (now (line .entry)) (now (buffer .exit)) (afterOf h r)
+        (now (line .exit)) (r .ran .done) ⌝ }
 {
     let from = line::place(h.at, h.filter.tuning.length as usize);
     let r = by_order(line, fed, h, from, buffer);
-    let v = r.state;
-    let y = r.last;
-    let head = carried(
-        h,
-        anew(h.filter.tuning.order, h.filter, v),
-        y,
-        line::round(h.at + r.done),
-    );
-    Progress {
-        head: head,
-        done: r.done,
-    }
-}
-
-// So many samples more, counted up to the advance.
-fn counted(taken: u32, more: usize, advance: u32) -> u32
-    requires { ⌜ taken ≤ advance ⌝ }
-    ensures { λ r. ⌜ r ≡ min (taken + more) advance ⌝ }
-{
-    if more < (advance - taken) as usize {
-        return taken + (more as u32);
-    }
-    advance
+    let u = at_rest();
+    Led { ran: r, next: u }
 }
 
 // Renders samples of the buffer while a change waits; an announced one may take effect at the last.
@@ -97,40 +73,19 @@ pub fn while_waiting(
     line: &mut [i32; 2112],
     fed: bool,
     h: Head,
-    kind: Kind,
     e: Filter,
     taken: u32,
     buffer: &mut [i32],
-) -> Progress
+) -> Led
     requires { ⌜ Valid h (now line) × (loudest (fedOf fed 0 (now buffer)) ≤ M)
-        × Lasts kind (taken + length (now buffer)) (h .advance) ⌝ }
-    requires { ⌜ (h .waiting ≡ Prepared kind e taken) × (h .pluck .left ≡ 0)
+        × Lasts (kindIn (h .waiting)) (taken + length (now buffer)) (h .advance) ⌝ }
+    requires { ⌜ (h .waiting ≡ Prepared (kindIn (h .waiting)) e taken) × (h .pluck .left ≡ 0)
         × Apart (h .at) (h .filter .tuning .length) (length (now buffer))
         × Apart (h .at) (e .tuning .length) (length (now buffer)) ⌝ }
-    ensures { λ r. ⌜ Went fed (now (buffer .entry)) h (now (line .entry)) (now (buffer .exit)) (r .head)
-        (now (line .exit)) (r .done) ⌝ }
+    ensures { λ r. ⌜ Went fed (now (buffer .entry)) h (now (line .entry)) (now (buffer .exit)) (afterOf h r)
+        (now (line .exit)) (r .ran .done) ⌝ }
 {
     let from = line::place(h.at, h.filter.tuning.length as usize);
     let far = line::place(h.at, e.tuning.length as usize);
-    let p = by_orders(line, fed, h, e, taken, from, far, buffer);
-    let r = p.ran;
-    let v = r.state;
-    let y = r.last;
-    let u = p.next;
-    let head = carried(
-        h,
-        anew(h.filter.tuning.order, h.filter, v),
-        y,
-        line::round(h.at + r.done),
-    );
-    let n = settle(
-        head,
-        kind,
-        anew(e.tuning.order, e, u),
-        counted(taken, r.done, h.advance),
-    );
-    Progress {
-        head: n,
-        done: r.done,
-    }
+    by_orders(line, fed, h, e, taken, from, far, buffer)
 }

@@ -2,19 +2,25 @@
 // the output.
 // A buffer is rendered in stretches, each by the loop that fits what waits and what sounds.
 ghost use mathlib.Core.Path.{_≡_};
-ghost use Prim.Native.Nat.{_≤_, _<_};
-ghost use lib.IntN.{pos};
+ghost use mathlib.Core.Bool.{false};
+ghost use mathlib.Core.List.{List};
+ghost use Prim.Native.Nat.{_+_, _≤_, _<_};
+ghost use lib.IntN.{ℤ, pos};
 ghost use lib.ListN.{length, replicate};
 ghost use Rattle.integer.specs.Rounding.{M};
 ghost use Rattle.samples.specs.Samples.{loudest};
 ghost use Rattle.rule.specs.State.{blockAfter, blockOut};
 ghost use Rattle.voice.specs.Struct.{stateOf};
-ghost use Rattle.voice.specs.Valid.{Valid};
+ghost use Rattle.voice.specs.Valid.{Fit, Valid};
+ghost use Rattle.loops.specs.Carried.{afterOf};
 ghost use Rattle.loops.specs.Fed.{fedOf};
-ghost use Rattle.loops.specs.Rendered.{Went};
+ghost use Rattle.loops.specs.Rendered.{Unfed, Went};
 use crate::reach::reach;
 use crate::reach::sung;
+use loops::Led;
 use loops::Progress;
+use loops::Ran;
+use loops::carried::after;
 use loops::input;
 use loops::plucked::while_plucked;
 use loops::while_idle;
@@ -52,14 +58,37 @@ fn sounding(line: &mut [i32; 2112], fed: bool, mut head: Head, buffer: &mut [i32
     }
 }
 
+// What goes on of a voice while none of its samples is rendered.
+fn none(h: Head) -> Led
+    requires { ⌜ Fit h ⌝ }
+    ensures { λ r. ⌜ (afterOf h r ≡ h) × (r .ran .done ≡ 0) ⌝ }
+{
+    let v = h.filter.state;
+    let y = h.last;
+    let w = h.waiting;
+    let r = Ran {
+        state: v,
+        last: y,
+        done: 0,
+    };
+    match w {
+        Waiting::Idle => Led { ran: r, next: v },
+        Waiting::Prepared(_, e, _) => {
+            let u = e.state;
+            Led { ran: r, next: u }
+        }
+    }
+}
+
 // Renders samples while no pluck sounds, as many as one loop can.
-fn quiet(line: &mut [i32; 2112], fed: bool, h: Head, buffer: &mut [i32]) -> Progress
+fn quiet(line: &mut [i32; 2112], fed: bool, h: Head, buffer: &mut [i32]) -> Led
     requires { ⌜ Valid h (now line) × (loudest (fedOf fed 0 (now buffer)) ≤ M) ⌝ }
-    ensures { λ r. ⌜ Went fed (now (buffer .entry)) h (now (line .entry)) (now (buffer .exit)) (r .head)
-        (now (line .exit)) (r .done) ⌝ }
+    ensures { λ r. ⌜ Went fed (now (buffer .entry)) h (now (line .entry)) (now (buffer .exit)) (afterOf h r)
+        (now (line .exit)) (r .ran .done) ⌝ }
+    ensures { λ r. ⌜ h .at + r .ran .done ≤ 2112 ⌝ }
 {
     if h.pluck.left != 0 {
-        return Progress { head: h, done: 0 };
+        return none(h);
     }
     let n = line::room(h.at, h.filter.tuning.length as usize, buffer.len());
     let w = h.waiting;
@@ -68,7 +97,7 @@ fn quiet(line: &mut [i32; 2112], fed: bool, h: Head, buffer: &mut [i32]) -> Prog
         Waiting::Prepared(kind, e, taken) => {
             let m = line::room(h.at, e.tuning.length as usize, n);
             let k = reach(kind, m, (h.advance - taken) as usize);
-            while_waiting(line, fed, h, kind, e, taken, &mut buffer[..k])
+            while_waiting(line, fed, h, e, taken, &mut buffer[..k])
         }
     }
 }
@@ -95,10 +124,12 @@ fn stretch(line: &mut [i32; 2112], fed: bool, h: Head, buffer: &mut [i32]) -> Pr
     ensures { λ r. ⌜ (0 < length (now (buffer .entry)) → 0 < r .done) ⌝ }
 {
     let p = quiet(line, fed, h, buffer);
-    if p.done != 0 {
-        return p;
+    let n = p.ran.done;
+    let k = after(h, p);
+    if n != 0 {
+        return Progress { head: k, done: n };
     }
-    loud(line, fed, p.head, buffer)
+    loud(line, fed, k, buffer)
 }
 
 // Each sample of the buffer is an input where one is fed, else 0 comes in, and becomes the output.
@@ -129,6 +160,27 @@ pub fn render(line: &mut [i32; 2112], head: Head, buffer: &mut [i32]) -> Head
     ensures { λ r. ⌜ Valid r (now (line .exit)) ⌝ }
 {
     through(line, true, head, buffer)
+}
+
+// Renders samples where 0 comes in at each, as many as one loop can, for whoever keeps the head: `after` makes it the
+// head that this leaves.
+pub fn begin(line: &mut [i32; 2112], head: Head, buffer: &mut [i32]) -> Led
+    requires { ⌜ Valid head (now line) ⌝ }
+    ensures { λ r. ⌜ Went false (now (buffer .entry)) head (now (line .entry)) (now (buffer .exit)) (afterOf head r)
+        (now (line .exit)) (r .ran .done) ⌝ }
+    ensures { λ r. ⌜ head .at + r .ran .done ≤ 2112 ⌝ }
+{
+    quiet(line, false, head, buffer)
+}
+
+// The rest of a buffer whose first samples are rendered, so many, where 0 comes in at each.
+pub fn rest(line: &mut [i32; 2112], head: Head, from: usize, buffer: &mut [i32]) -> Head
+    requires { ⌜ Valid head (now line) × (from ≤ length (now buffer)) ⌝ }
+    ensures { λ r. ⌜ ((b : List ℤ) (h : Head) (l : List ℤ)
+        → Went false b h l (now (buffer .entry)) head (now (line .entry)) from
+        → Unfed b h l (now (buffer .exit)) r (now (line .exit))) ⌝ }
+{
+    through(line, false, head, &mut buffer[from..])
 }
 
 // The output where 0 comes in at each sample, whatever the buffer held.

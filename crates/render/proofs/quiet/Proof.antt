@@ -1,17 +1,22 @@
 -- `render::quiet` meets its contract: by what waits, the loop that fits.
 -- Assumes nothing.
-use mathlib.Core.Path.{_≡_, sym, subst}
+use mathlib.Core.Path.{_≡_, sym, ap, subst, _∙_}
 use Prim.Native.Nat.{ℕ, _-_, _≤_}
 use native.Mathlib.Omega.{arith}
 use borrow.Author.Needs.{needs}
 use lib.ListN.{length, take}
 use lib.Seq.{length-take-le}
 use Rattle.line.specs.Ring.{Apart}
+use Rattle.voice.specs.declared.Kind.{Kind}
 use Rattle.voice.specs.declared.Waiting.{Waiting}
+use Rattle.voice.specs.declared.Waiting.the-variants.{Prepared}
 use Rattle.voice.specs.declared.Head.{Head}
-use Rattle.voice.specs.Struct.{stateOf}
+use Rattle.voice.specs.Struct.{kindOf, stateOf}
 use Rattle.voice.specs.Valid.{Preparing, Waiting-valid}
+use Rattle.loops.specs.Carried.{kindIn}
 use Rattle.loops.specs.Fed.{fedOf}
+use Rattle.loops.specs.Rendered.{Went}
+use Rattle.loops.proofs.Fed.{length-fed}
 use Rattle.loops.proofs.Rendered.{begun}
 use Rattle.render.proofs.Joined.{fed-quiet, fed-first}
 use Rattle.render.proofs.quiet.Statement.{statement}
@@ -21,11 +26,22 @@ use Rattle.render.proofs.quiet.Tie as tie
 fewer : (at k n m : ℕ) → m ≤ n → Apart at k n → Apart at k m
 fewer at k n m h a = omega (arith, a)
 
+none-requires : tie.Need-none-requires
+none-requires c κs = search needs
+
 returns : tie.Need-returns
 returns c =
-    let s = c .before .before in
+    let n = c .none in
+    let s = c .before .before .before in
     let a = s .args in
-    (begun (fedOf (a .fed) 0 (a .buffer .now)) (stateOf (a .h) (a .line .now)) (s .pre .1), s .pre .0)
+    let still : Went (a .fed) (a .buffer .now) (a .h) (a .line .now) (a .buffer .now) (a .h) (a .line .now) 0 =
+    (begun (fedOf (a .fed) 0 (a .buffer .now)) (stateOf (a .h) (a .line .now)) (s .pre .1), s .pre .0) in (
+      subst (λ (k : Head). Went (a .fed) (a .buffer .now) (a .h) (a .line .now) (a .buffer .now) k (a .line .now)
+          (n .result .ran .done)) (sym (n .ensures .0))
+          (subst (λ (i : ℕ). Went (a .fed) (a .buffer .now) (a .h) (a .line .now) (a .buffer .now) (a .h)
+          (a .line .now) i) (sym (n .ensures .1)) still),
+      omega (arith, n .ensures .1, s .pre .0 .fit .at),
+    )
 
 cast-room : tie.Need-cast-room
 cast-room c = search needs
@@ -79,6 +95,9 @@ enum-known-w c = search needs
 module _ (c : tie.After-w) where
   abbrev around : tie.After-room
   around = c .before .before
+
+  kind-in : kindIn (h around .waiting) ≡ c .w .given .0 .0
+  kind-in = ap kindIn (c .w .given .1)
 
   waits : Preparing (h around .advance) (c .w .given .0 .0) (c .w .given .0 .1 .0) (c .w .given .0 .1 .1 .0)
   waits =
@@ -150,9 +169,14 @@ while-waiting-requires c κs =
       (
         s .pre .0,
         fed-quiet (a .fed) (n c) (a .buffer .now) (s .pre .1),
-        λ i. omega (arith, l, r .1 i, waits w .counted),
+        λ i. omega (arith, l, r .1 (ap kindOf (sym (kind-in w)) ∙ i), waits w .counted),
       ),
-      (w .w .given .1, none-left o, near, away),
+      (
+        w .w .given .1 ∙ ap (λ (i : Kind). Prepared i e (w .w .given .0 .1 .1 .0)) (sym (kind-in w)),
+        none-left o,
+        near,
+        away,
+      ),
     )
 
 same-length : tie.Need-same-length
@@ -164,8 +188,14 @@ returns-2 c =
     let r = ring (k .before) in
     let s = start r in
     let a = s .args in
-    let o = k .while-idle in
-    (fed-first (a .fed) (r .room .result) (a .buffer .now) (o .last .1 .1 .1 .0) (s .pre .1) (o .ensures .0), o .ensures .1)
+    let b = take (r .room .result) (a .buffer .now) in
+    let o = k .while-idle in (
+      (
+        fed-first (a .fed) (r .room .result) (a .buffer .now) (o .last .1 .1 .1 .0) (s .pre .1) (o .ensures .0),
+        o .ensures .1,
+      ),
+      omega (arith, o .ensures .0 .within, length-fed (a .fed) 0 b, first (k .before), r .room .ensures .1 .0),
+    )
 
 same-length-2 : tie.Need-same-length-2
 same-length-2 c = search needs
@@ -175,15 +205,28 @@ returns-3 c =
     let k = c .before in
     let s = begin (k .before) in
     let a = s .args in
+    let m = n (k .before) in
+    let f = far (k .before) in
     let o = k .while-waiting in (
-      fed-first (a .fed) (n (k .before)) (a .buffer .now) (o .last .1 .1 .1 .1 .1 .1 .0) (s .pre .1) (o .ensures .0),
-      o .ensures .1,
+      (
+        fed-first (a .fed) m (a .buffer .now) (o .last .1 .1 .1 .1 .1 .0) (s .pre .1) (o .ensures .0),
+        o .ensures .1,
+      ),
+      omega (
+        arith,
+        o .ensures .0 .within,
+        length-fed (a .fed) 0 (take m (a .buffer .now)),
+        front (k .before),
+        k .before .before .before .reach .ensures .0,
+        f .room2 .ensures .1 .0,
+      ),
     )
 
 pub quiet-spec : {M : Type 1} → statement M
 quiet-spec =
     tie.close
     (tie.spec
+    none-requires
     returns
     cast-room
     room-requires

@@ -1,0 +1,74 @@
+-- A buffer in which nothing comes in, rendered at once or in two parts, and where it stands in a longer one.
+-- Assumes nothing.
+use mathlib.Core.Path.{_≡_, sym, ap, ap₂, _∙_}
+use mathlib.Core.Bool.{false}
+use mathlib.Core.List.{List, _++_}
+use Prim.Native.Nat.{ℕ, _-_, _≤_}
+use native.Mathlib.Omega.{arith}
+use borrow.Rule.Slice.PartMut.{putMid, postOf, take-put, drop-put, post-is}
+use lib.IntN.{ℤ}
+use lib.ListN.{length, take, drop}
+use lib.Seq.{length-take-le, take-at, drop-at}
+use Rattle.rule.specs.State.{blockAfter, blockOut}
+use Rattle.voice.specs.declared.Head.{Head}
+use Rattle.voice.specs.Struct.{stateOf}
+use Rattle.voice.specs.Valid.{Valid}
+use Rattle.loops.specs.Fed.{fedOf}
+use Rattle.loops.specs.Rendered.{Unfed, Went}
+use Rattle.loops.proofs.Fed.{length-fed, as-long, cleared-zeros, all-fed, fed-drop, fed-take}
+use Rattle.loops.proofs.Rendered.{all-after, all-out}
+
+module _ (b : List ℤ) (h : Head) (l c : List ℤ) (k : Head) (m : List ℤ) (i : ℕ) (w : Went false b h l c k m i)
+  where
+    -- all of it at once
+    pub unfed-all : length b ≤ i → Unfed b h l c k m
+    unfed-all n =
+        let xs = fedOf false 0 b in
+        let long = as-long false i c b (w .0 .long) in
+        let o : length (fedOf false i c) ≤ i = omega (arith, n, long, length-fed false i c) in
+        record {
+          after =
+              all-after xs (stateOf h l) (fedOf false i c) (stateOf k m) i (w .0) o
+              ∙ ap (λ (z : List ℤ). blockAfter (stateOf h l) z) (cleared-zeros b);
+          out =
+              sym (all-fed false i c (omega (arith, n, long)))
+              ∙ all-out xs (stateOf h l) (fedOf false i c) (stateOf k m) i (w .0) o
+              ∙ ap (λ (z : List ℤ). blockOut (stateOf h l) z) (cleared-zeros b);
+          valid = w .1;
+        }
+
+    -- and then the rest of it
+    pub unfed-rest : {g : Head} {n x : List ℤ}
+        → stateOf g n ≡ blockAfter (stateOf k m) (fedOf false 0 (drop i c))
+        → x ≡ blockOut (stateOf k m) (fedOf false 0 (drop i c)) → Valid g n → Unfed b h l (take i c ++ x) g n
+    unfed-rest {g} {n} {x} after out valid =
+        let u = stateOf k m in
+        let d = fed-drop false i c in
+        record {
+          after =
+              after
+              ∙ ap (λ (z : List ℤ). blockAfter u z) (sym d)
+              ∙ w .0 .left
+              ∙ ap (λ (z : List ℤ). blockAfter (stateOf h l) z) (cleared-zeros b);
+          out =
+              ap₂ (λ (x y : List ℤ). x ++ y) (sym (fed-take false i c))
+              (out ∙ ap (λ (z : List ℤ). blockOut u z) (sym d))
+              ∙ w .0 .out
+              ∙ ap (λ (z : List ℤ). blockOut (stateOf h l) z) (cleared-zeros b);
+          valid = valid;
+        }
+
+-- ---- a part that is lent once more, after it was put back
+module _ (a e : ℕ) (l x : List ℤ) (h : a ≤ e) (k : e ≤ length l) (n : length x ≡ e - a) where
+  here : length (take a l) ≡ a
+  here = length-take-le a l (omega (arith, h, k))
+
+  pub part-again : take (e - a) (drop a (putMid a (e - a) l x)) ≡ x
+  part-again =
+      ap (λ (z : List ℤ). take (e - a) z) (drop-at (take a l) (x ++ postOf a (e - a) l) a here)
+      ∙ take-at x (postOf a (e - a) l) (e - a) n
+
+  pub put-again : (y : List ℤ) → putMid a (e - a) (putMid a (e - a) l x) y ≡ putMid a (e - a) l y
+  put-again y =
+      ap₂ (λ (p q : List ℤ). p ++ (y ++ q)) (take-put a (e - a) l x (omega (arith, h, k)))
+      (post-is a e (putMid a (e - a) l x) h ∙ drop-put a e l x h k n ∙ sym (post-is a e l h))
