@@ -7,6 +7,7 @@ ghost use Rattle.voice.specs.Valid.{Valid};
 ghost use Rattle.refusal.specs.Returned.{Tests};
 ghost use Rattle.score.specs.Run.{fits};
 ghost use Rattle.score.specs.Played.{PlaysAll, Runs};
+use loops::carried::after;
 use record::NUMBER;
 use record::WAIT;
 use record::read_record;
@@ -63,7 +64,12 @@ fn play(line: &mut [i32; 2112], mut head: Head, records: &[u8], output: &mut [i3
         }
         let wait = as_length(r[WAIT]);
         let e = done + wait;
-        head = render::silent(line, head, &mut output[done..e]);
+        let p = render::begin(line, head, &mut output[done..e]);
+        let n = p.ran.done;
+        head = after(head, p);
+        if n != wait {
+            head = render::rest(line, head, n, &mut output[done..e]);
+        }
         done = e;
         if follow::sets(&r) {
             let a = follow::act(line, head, &r);

@@ -1,6 +1,7 @@
 -- `score::play` meets its contract: each turn reads a record and follows it. Proof/Record.antt has the
 -- invariant. Assumes nothing.
 mod Record
+mod Waited
 mod Followed
 use mathlib.Core.Path.{refl}
 use native.Mathlib.Omega.{arith}
@@ -9,8 +10,9 @@ use Rattle.voice.specs.Struct.{stateOf}
 use Rattle.score.proofs.Playing.{begun, all-played, refused}
 use Rattle.score.proofs.play.Proof.Record.{Inv-loop, μ-loop, bytes, opened, lent, voice, left, index}
 use Rattle.score.proofs.play.Proof.Record.{done, output, playing, some, number-is, room}
-use Rattle.score.proofs.play.Proof.Followed.{place, same, fewer, ends-with, plays-on, waited, acted}
-use Rattle.score.proofs.play.Proof.Followed.{rendered, followed}
+use Rattle.score.proofs.play.Proof.Waited.{at, began, place, wait, went, within, whole, waited}
+use Rattle.score.proofs.play.Proof.Followed.{same, fewer, ends-with, plays-on, rendered, acted}
+use Rattle.score.proofs.play.Proof.Followed.{over, followed}
 use Rattle.score.proofs.play.Statement.{statement}
 use Rattle.score.proofs.play.Tie as tie
 
@@ -54,45 +56,76 @@ add-e c = let r = c .before .before in omega (
   r .before .before .before .before .before .before .before .good,
 )
 
-mul-silent : tie.Need-mul-silent Inv-loop μ-loop
-mul-silent c = search needs
+mul-begin : tie.Need-mul-begin Inv-loop μ-loop
+mul-begin c = search needs
 
-sub-silent : tie.Need-sub-silent Inv-loop μ-loop
-sub-silent c = search needs
+sub-begin : tie.Need-sub-begin Inv-loop μ-loop
+sub-begin c = search needs
 
-part-silent-start : tie.Need-part-silent-start Inv-loop μ-loop
-part-silent-start c = search needs
+part-begin-start : tie.Need-part-begin-start Inv-loop μ-loop
+part-begin-start c = search needs
 
-part-silent-end : tie.Need-part-silent-end Inv-loop μ-loop
-part-silent-end c = omega (arith, room (c .before))
+part-begin-end : tie.Need-part-begin-end Inv-loop μ-loop
+part-begin-end c = omega (arith, room (c .before))
 
-silent-requires : tie.Need-silent-requires Inv-loop μ-loop
-silent-requires c κs = c .before .before .before .before .before .before .before .before .before .loop .inv .1
+begin-requires : tie.Need-begin-requires Inv-loop μ-loop
+begin-requires c κs = c .before .before .before .before .before .before .before .before .before .loop .inv .1
+
+after-requires : tie.Need-after-requires Inv-loop μ-loop
+after-requires c κs =
+    let b = c .before in
+    let l = place b .before .before .before .before .before in
+    (l .loop .inv .1 .fit .waiting, b .begin .ensures .1)
+
+mul-rest : tie.Need-mul-rest Inv-loop μ-loop
+mul-rest c =
+    let a = c .before .before in
+    let p = place (began a) in
+    omega (
+      arith,
+      room (wait (began a)),
+      p .before .before .before .before .before .loop .inv .2,
+      p .before .before .before .before .before .before .before .good,
+    )
+
+sub-rest : tie.Need-sub-rest Inv-loop μ-loop
+sub-rest c = search needs
+
+part-rest-start : tie.Need-part-rest-start Inv-loop μ-loop
+part-rest-start c = search needs
+
+part-rest-end : tie.Need-part-rest-end Inv-loop μ-loop
+part-rest-end c =
+    let a = c .before .before in
+    omega (arith, room (wait (began a)), whole a)
+
+rest-requires : tie.Need-rest-requires Inv-loop μ-loop
+rest-requires c κs = let a = c .before .before .before in (went a .1, within a)
 
 sets-requires : tie.Need-sets-requires Inv-loop μ-loop
 sets-requires c κs = search needs
 
 act-requires : tie.Need-act-requires Inv-loop μ-loop
-act-requires c κs = c .before .before .before .before .before .before .silent .ensures .1 .1
+act-requires c κs = waited (c .before .before .before .before .before) .1
 
 same-length-2 : tie.Need-same-length-2 Inv-loop μ-loop
-same-length-2 c = same (waited (c .before .before))
+same-length-2 c = same (rendered (c .before .before))
 
 returns-2 : tie.Need-returns-2 Inv-loop μ-loop
-returns-2 c = let a = c .before .before in ends-with (waited a) (acted a) (c .if3 .taken)
+returns-2 c = let a = c .before .before in ends-with (rendered a) (acted a) (c .if4 .taken)
 
 add-index : tie.Need-add-index Inv-loop μ-loop
 add-index c =
-    let p = place (rendered c) in
+    let p = at (over c) in
     omega (arith, some p, playing p .few, p .before .before .before .before .before .before .before .good)
 
 loop-less : tie.Need-loop-less Inv-loop μ-loop
-loop-less c = fewer (rendered c)
+loop-less c = fewer (over c)
 
 loop-again : tie.Need-loop-again Inv-loop μ-loop
 loop-again c =
     let f = followed c in
-    (plays-on (rendered c) f refl, f .valid, same (rendered c))
+    (plays-on (over c) f refl, f .valid, same (over c))
 
 same-length-3 : tie.Need-same-length-3 Inv-loop μ-loop
 same-length-3 c = search needs
@@ -120,11 +153,17 @@ play-spec =
     array-read-as-length
     as-length-requires
     add-e
-    mul-silent
-    sub-silent
-    part-silent-start
-    part-silent-end
-    silent-requires
+    mul-begin
+    sub-begin
+    part-begin-start
+    part-begin-end
+    begin-requires
+    after-requires
+    mul-rest
+    sub-rest
+    part-rest-start
+    part-rest-end
+    rest-requires
     sets-requires
     act-requires
     same-length-2

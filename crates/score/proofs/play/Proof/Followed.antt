@@ -1,14 +1,15 @@
--- A record in the loop of `score::play`, once its wait was rendered, and once it was followed: the run ends
--- with it or goes on. Assumes nothing.
+-- A record in the loop of `score::play`, once it was followed: the run ends with it or goes on.
+-- Assumes nothing.
 use mathlib.Core.Path.{_≡_, refl, sym, ap, subst, _∙_}
 use mathlib.Core.Logic.{⊎-elim}
 use mathlib.Core.List.{List}
 use Prim.Native.Nat.{ℕ, _+_, _-_, _<_}
 use borrow.Rule.Slice.PartMut.{putMid}
 use lib.IntN.{ℤ}
-use lib.ListN.{length, take, drop}
+use lib.ListN.{length}
 use Rattle.rule.specs.State.{puts}
 use Rattle.voice.specs.declared.Answer.{Answer}
+use Rattle.voice.specs.declared.Head.{Head}
 use Rattle.voice.specs.Struct.{stateOf}
 use Rattle.record.specs.Record.{fields}
 use Rattle.follow.specs.Follow.{value, actCalls, recordCalls}
@@ -16,109 +17,107 @@ use Rattle.follow.specs.Does.{Does}
 use Rattle.follow.proofs.Record.{does-as, does-still, record-heard, record-acts}
 use Rattle.score.specs.Played.{PlaysAll}
 use Rattle.score.proofs.Playing.{Playing}
-use Rattle.score.proofs.Turns.{part-length, still-long, stopped, shorter, goes-on}
+use Rattle.score.proofs.Turns.{still-long, stopped, shorter, goes-on}
 use Rattle.score.proofs.play.Proof.Record.{Inv-loop, μ-loop, bytes, opened, lent, head, line, voice}
 use Rattle.score.proofs.play.Proof.Record.{left, index, done, output, playing, some, read, taken}
-use Rattle.score.proofs.play.Proof.Record.{wait-is, room}
+use Rattle.score.proofs.play.Proof.Record.{wait-is}
+use Rattle.score.proofs.play.Proof.Waited.{began, wait, ends-at, part, long, at, samples, waited}
 use Rattle.score.proofs.play.Tie as tie
 
 -- ---- a record whose wait was rendered
-module _ (c : tie.After-silent Inv-loop μ-loop) where
-  abbrev wait : tie.After-as-length Inv-loop μ-loop
-  wait = c .before .before .before
+module _ (c : tie.Joined2 Inv-loop μ-loop) where
+  abbrev wait-read : tie.After-as-length Inv-loop μ-loop
+  wait-read = wait (began (c .before))
 
-  abbrev pub place : tie.After-refused Inv-loop μ-loop
-  place = c .before .before .before .before .before
+  abbrev pub ends : ℕ
+  ends = ends-at (began (c .before))
 
-  abbrev pub ends-at : ℕ
-  ends-at = done place + wait .as-length .result
+  abbrev g : Head
+  g = c .if2 .head
 
-  abbrev pub samples : List ℤ
-  samples = c .silent .last .1 .1 .0
+  abbrev k : List ℤ
+  k = c .if2 .line
 
-  abbrev pub written : List ℤ
-  written = putMid (done place) (ends-at - done place) (output place) samples
+  value-long : length (part (began (c .before))) ≡ value (fields (left (at c))) 0
+  value-long = long (began (c .before)) ∙ wait-is wait-read
 
-  long : length (take (ends-at - done place) (drop (done place) (output place)))
-      ≡ value (fields (left place)) 0
-  long = part-length (done place) (output place) (room wait) ∙ wait-is wait
+  heard : samples c ≡ puts (voice (at c)) (recordCalls (fields (left (at c))) (voice (at c)))
+  heard = record-heard (fields (left (at c))) (head (at c)) (line (at c)) value-long refl
 
-  heard : samples ≡ puts (voice place) (recordCalls (fields (left place)) (voice place))
-  heard = record-heard (fields (left place)) (head place) (line place) long (c .silent .ensures .1 .0)
+  ends-is : ends ≡ done (at c) + value (fields (left (at c))) 0
+  ends-is = ap (λ (n : ℕ). done (at c) + n) (wait-is wait-read)
 
-  ends-is : ends-at ≡ done place + value (fields (left place)) 0
-  ends-is = ap (λ (n : ℕ). done place + n) (wait-is wait)
-
-  pub same : length written ≡ length (lent place)
+  pub same : length (c .if2 .output) ≡ length (lent (at c))
   same =
-      still-long (bytes place) (opened place) (lent place) (voice place) (left place) (index place)
-      (done place) (output place) (playing place) (some place) (taken wait) samples heard ends-is
+      let p = at c in
+      ap (λ (o : List ℤ). length o) (waited c .2)
+      ∙ still-long (bytes p) (opened p) (lent p) (voice p) (left p) (index p) (done p) (output p) (playing p)
+      (some p) (taken wait-read) (samples c) heard ends-is
 
-  pub fewer : length (place .before .before .read-record .result .now) < length (left place)
+  pub fewer : length (at c .before .before .read-record .result .now) < length (left (at c))
   fewer =
-      subst (λ (t : List ℕ). length t < length (left place))
-      (sym (place .before .before .read-record .ensures .1))
-      (shorter (bytes place) (opened place) (lent place) (voice place) (left place) (index place)
-      (done place) (output place) (playing place) (some place) (taken wait) samples heard ends-is)
+      let p = at c in
+      subst (λ (t : List ℕ). length t < length (left p)) (sym (p .before .before .read-record .ensures .1))
+      (shorter (bytes p) (opened p) (lent p) (voice p) (left p) (index p) (done p) (output p) (playing p)
+      (some p) (taken wait-read) (samples c) heard ends-is)
 
   -- it made its calls, with this answer
   abbrev pub Follows : Answer → Type 0
-  Follows a = Does (head place) (line place) (recordCalls (fields (left place)) (voice place)) a
-      (c .silent .last .0)
+  Follows a = Does (head (at c)) (line (at c)) (recordCalls (fields (left (at c))) (voice (at c))) a k
 
-  pub acts : {a : Answer} → Does (c .silent .result) (c .silent .last .0)
-      (actCalls (place .before .before .read-record .last .1 .0)
-      (stateOf (c .silent .result) (c .silent .last .0))) a (c .silent .last .0)
-      → Follows a
+  pub acts : {a : Answer}
+      → Does g k (actCalls (at c .before .before .read-record .last .1 .0) (stateOf g k)) a k → Follows a
   acts {a} d =
-      let g = c .silent .result in
-      let k = c .silent .last .0 in
-      record-acts (fields (left place)) (head place) (line place) long g k
-      (c .silent .ensures .0) (c .silent .ensures .1 .1)
-      (subst (λ (r : List ℕ). Does g k (actCalls r (stateOf g k)) a k) (read place) d)
+      record-acts (fields (left (at c))) (head (at c)) (line (at c)) value-long g k (waited c .0) (waited c .1)
+      (subst (λ (r : List ℕ). Does g k (actCalls r (stateOf g k)) a k) (read (at c)) d)
 
   pub ends-with : {a : Answer} → Follows a → (a .refusal ≡ 0 → ⊥)
-      → PlaysAll (bytes place) (opened place) (lent place)
-      (record { refusal = a .refusal; place = index place; written = ends-at }) written
-  ends-with f n =
-      stopped (bytes place) (opened place) (lent place) (voice place) (left place) (index place)
-      (done place) (output place) (playing place) (some place) (taken wait) samples heard ends-is
-      (f .number) n
+      → PlaysAll (bytes (at c)) (opened (at c)) (lent (at c))
+      (record { refusal = a .refusal; place = index (at c); written = ends }) (c .if2 .output)
+  ends-with {a} f n =
+      let p = at c in
+      subst (λ (o : List ℤ). PlaysAll (bytes p) (opened p) (lent p)
+      (record { refusal = a .refusal; place = index p; written = ends }) o) (sym (waited c .2))
+      (stopped (bytes p) (opened p) (lent p) (voice p) (left p) (index p) (done p) (output p) (playing p)
+      (some p) (taken wait-read) (samples c) heard ends-is (f .number) n)
 
   pub plays-on : {a : Answer} → Follows a → a .refusal ≡ 0
-      → Playing (bytes place) (opened place) (lent place) (stateOf (a .head) (c .silent .last .0))
-      (place .before .before .read-record .result .now) (index place + 1) ends-at written
+      → Playing (bytes (at c)) (opened (at c)) (lent (at c)) (stateOf (a .head) k)
+      (at c .before .before .read-record .result .now) (index (at c) + 1) ends (c .if2 .output)
   plays-on {a} f z =
-      subst (λ (t : List ℕ). Playing (bytes place) (opened place) (lent place)
-      (stateOf (a .head) (c .silent .last .0)) t (index place + 1) ends-at written)
-      (sym (place .before .before .read-record .ensures .1))
-      (goes-on (bytes place) (opened place) (lent place) (voice place) (left place) (index place)
-      (done place) (output place) (playing place) (some place) (taken wait) samples heard ends-is
-      (sym (f .number) ∙ z) (f .state))
+      let p = at c in
+      let v = stateOf (a .head) k in
+      subst (λ (o : List ℤ). Playing (bytes p) (opened p) (lent p) v
+      (p .before .before .read-record .result .now) (index p + 1) ends o) (sym (waited c .2))
+      (subst (λ (t : List ℕ). Playing (bytes p) (opened p) (lent p) v t (index p + 1) ends
+      (putMid (done p) (ends - done p) (output p) (samples c)))
+      (sym (p .before .before .read-record .ensures .1))
+      (goes-on (bytes p) (opened p) (lent p) (voice p) (left p) (index p) (done p) (output p) (playing p)
+      (some p) (taken wait-read) (samples c) heard ends-is (sym (f .number) ∙ z) (f .state)))
 
 -- ---- one that was followed
 module _ (c : tie.After-act Inv-loop μ-loop) where
-  abbrev pub waited : tie.After-silent Inv-loop μ-loop
-  waited = c .before .before .before .before .before .before .before
+  abbrev pub rendered : tie.Joined2 Inv-loop μ-loop
+  rendered = c .before .before .before .before .before .before
 
-  pub acted : Follows waited (c .act .result)
-  acted = acts waited (c .act .ensures)
+  pub acted : Follows rendered (c .act .result)
+  acted = acts rendered (c .act .ensures)
 
 -- whether it sets something or not
-module _ (c : tie.Joined2 Inv-loop μ-loop) where
-  abbrev pub rendered : tie.After-silent Inv-loop μ-loop
-  rendered = c .before .before .before .before
+module _ (c : tie.Joined3 Inv-loop μ-loop) where
+  abbrev pub over : tie.Joined2 Inv-loop μ-loop
+  over = c .before .before .before
 
-  pub followed : Follows rendered (record { refusal = 0; head = c .if2 .head })
+  pub followed : Follows over (record { refusal = 0; head = c .if3 .head })
   followed =
       ⊎-elim
       (λ j. does-as (acted (record {
         before = record {
-          before = record { before = record { before = c .before; if2 = j .0 }; act-arg = j .1 };
+          before = record { before = record { before = c .before; if3 = j .0 }; act-arg = j .1 };
           r4 = j .2;
         };
         act = j .3;
       })) (j .5 .left) (j .7))
-      (λ j. does-as (acts rendered (does-still (c .before .sets .ensures (j .0 .left) _)
-      (rendered .silent .ensures .1 .1))) refl (j .1))
-      (c .if2 .came)
+      (λ j. does-as (acts over (does-still (c .before .sets .ensures (j .0 .left) _) (waited over .1))) refl
+      (j .1))
+      (c .if3 .came)
