@@ -8,7 +8,7 @@ ghost use Rattle.rule.specs.Tests.{askings, asks, takings, asking, ready};
 ghost use Rattle.voice.specs.Struct.{kindOf, waitingOf};
 ghost use Rattle.voice.specs.Valid.{Fit};
 ghost use Rattle.voice.specs.Called.{Called};
-ghost use Rattle.change.specs.Committed.{committedOf};
+ghost use Rattle.change.specs.Committed.{committedOf, committingOf};
 use refusal::tested;
 use voice::Answer;
 use voice::Head;
@@ -72,13 +72,29 @@ fn switched(head: Head, w: Waiting) -> Head
     }
 }
 
+// What a commit is refused by: 21, then 20, else 0, and then it leaves what `committed` returns.
+pub fn uncommitted(head: Head) -> u32
+    requires { ⌜ Fit head ⌝ }
+    ensures { λ r. ⌜ Called head Commit (committingOf head r) ⌝ }
+{
+    let w = head.waiting;
+    early(w, head.advance)
+}
+
+// What waits is in force.
+pub fn committed(head: Head) -> Head
+    ensures { λ r. ⌜ r ≡ committedOf head (head .waiting) ⌝ }
+{
+    let w = head.waiting;
+    switched(head, w)
+}
+
 // Commits the change that was asked for: it is in force before the next sample.
 pub fn commit(head: Head) -> Answer
     requires { ⌜ Fit head ⌝ }
     ensures { λ r. ⌜ Called head Commit r ⌝ }
 {
-    let w = head.waiting;
-    let code = early(w, head.advance);
+    let code = uncommitted(head);
     if code != 0 {
         return Answer {
             refusal: code,
@@ -87,7 +103,7 @@ pub fn commit(head: Head) -> Answer
     }
     Answer {
         refusal: 0,
-        head: switched(head, w),
+        head: committed(head),
     }
 }
 

@@ -16,6 +16,7 @@ ghost use Rattle.voice.specs.Valid.{Tuned, Fit, Valid};
 ghost use Rattle.step.specs.Sample.{Ran};
 ghost use Rattle.voice.specs.Called.{Called, On};
 ghost use Rattle.change.specs.Refused.{RefusedBy};
+ghost use Rattle.change.specs.Started.{startedOf};
 use refusal::tested;
 use step::filter::moved;
 use voice::Answer;
@@ -34,6 +35,12 @@ pub mod asked;
 pub struct Changed {
     pub answer: Answer,
     pub count: u32,
+}
+
+// What a change that is to wait starts with: an eliminator at rest, or the filter in force where it is refused.
+pub struct Start {
+    pub refusal: u32,
+    pub filter: Filter,
 }
 
 // How many changes wait: none or one.
@@ -55,19 +62,40 @@ fn refused(h: Head, order: u32, length: u32, delay: u32) -> u32
     tested(code, refusal::CHANGE_WAITS, waiting(w), 0, 0)
 }
 
+// What a change that is to wait starts with, whichever its kind.
+pub fn ready(head: Head, order: u32, length: u32, delay: u32) -> Start
+    requires { ⌜ Fit head ⌝ }
+    ensures { λ q. ⌜ ((k : Kind) → Called head (Prepare (kindOf k) (tuning order length delay))
+        (startedOf head k q)) ⌝ }
+{
+    let f = head.filter;
+    let code = refused(head, order, length, delay);
+    if code != 0 {
+        return Start {
+            refusal: code,
+            filter: f,
+        };
+    }
+    let e = resting(order, length, delay);
+    Start {
+        refusal: 0,
+        filter: e,
+    }
+}
+
 // Starts an eliminator at rest, whose change waits as this kind does.
 fn prepare(head: Head, kind: Kind, order: u32, length: u32, delay: u32) -> Answer
     requires { ⌜ Fit head ⌝ }
     ensures { λ r. ⌜ Called head (Prepare (kindOf kind) (tuning order length delay)) r ⌝ }
 {
-    let code = refused(head, order, length, delay);
-    if code != 0 {
+    let q = ready(head, order, length, delay);
+    if q.refusal != 0 {
         return Answer {
-            refusal: code,
+            refusal: q.refusal,
             head: head,
         };
     }
-    let e = resting(order, length, delay);
+    let e = q.filter;
     Answer {
         refusal: 0,
         head: settle(head, kind, e, 0),

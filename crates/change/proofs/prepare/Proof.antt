@@ -1,40 +1,31 @@
--- `change::prepare` meets its contract: its eliminator is at rest, and in force at once or waiting.
+-- `change::prepare` meets its contract: what it starts with is in force at once or waiting.
 -- Assumes nothing.
 use borrow.Author.Needs.{needs}
-use Rattle.rule.specs.Voice.{tuning}
-use Rattle.rule.specs.Calls.{prepare, number}
-use Rattle.voice.specs.Struct.{kindOf}
-use Rattle.voice.proofs.Called.{called-refused}
-use Rattle.change.proofs.Changes.{changes-prepared}
+use Rattle.voice.specs.Struct.{settledOf}
+use Rattle.change.proofs.Chosen.{chosen-none, chosen-one}
 use Rattle.change.proofs.prepare.Statement.{statement}
 use Rattle.change.proofs.prepare.Tie as tie
 
-refused-requires : tie.Need-refused-requires
-refused-requires c κs = search needs
+ready-requires : tie.Need-ready-requires
+ready-requires c κs = search needs
 
 returns : tie.Need-returns
-unfolding number
 returns c =
-    let s = c .before .before in
-    let a = s .args in
-    let e = c .before .refused .ensures .number in
-    called-refused (a .head) (prepare (kindOf (a .kind)) (tuning (a .order) (a .length) (a .delay))) (s .pre) e (c .if1 .taken)
-
-resting-requires : tie.Need-resting-requires
-resting-requires c κs = c .before .refused .ensures .within (c .if1 .left)
+    let q = c .before .before in
+    let a = q .before .args in
+    chosen-none (settledOf (a .head) (a .kind) (q .ready .result .filter) 0) (c .if1 .taken)
+    (q .ready .ensures (a .kind))
 
 settle-requires : tie.Need-settle-requires
 settle-requires c κs = search needs
 
 returns-2 : tie.Need-returns-2
-unfolding number
 returns-2 c =
-    let r = c .before in
-    let b = r .before in
-    let e = b .before .refused .ensures .number in
-    rw (c .settle .ensures)
-    (changes-prepared (b .before .before .pre) (r .resting .ensures) (b .before .before .args .kind) e
-    (b .if1 .left))
+    let i = c .before .before in
+    let q = i .before .before in
+    let a = q .before .args in
+    chosen-one (settledOf (a .head) (a .kind) (q .ready .result .filter) 0) (i .if1 .left) (c .settle .ensures)
+    (q .ready .ensures (a .kind))
 
 pub prepare-spec : {M : Type 1} → statement M
-prepare-spec = tie.close (tie.spec refused-requires returns resting-requires settle-requires returns-2)
+prepare-spec = tie.close (tie.spec ready-requires returns settle-requires returns-2)
