@@ -111,3 +111,15 @@ module _ (r : List ℕ) (v : State) where
 pub on-as : {h : Head} {l : List ℤ} {c b : Call} {a : Answer} {k : List ℤ} → On h l c a k → c ≡ b
     → On h l b a k
 on-as {h} {l} {a} {k} o e = subst (λ (x : Call). On h l x a k) e o
+
+-- ---- a call whose caller keeps the head, which is g where the call is not refused
+module _ {h : Head} {l : List ℤ} {c : Call} {k : List ℤ} {n : ℕ} (g : Head)
+    (o : On h l c (record { refusal = n; head = cond (eqb n 0) g h }) k) where
+  pub start-refused : (n ≡ 0 → ⊥) → On h l c (record { refusal = n; head = h }) k
+  start-refused f =
+      subst (λ (b : Bool). On h l c (record { refusal = n; head = cond b g h }) k) (ne-eqb n 0 f) o
+
+  pub start-made : n ≡ 0 → {r : Head} → r ≡ g → On h l c (record { refusal = 0; head = r }) k
+  start-made z e =
+      subst (λ (r : Head). On h l c (record { refusal = 0; head = r }) k) (sym e)
+      (subst (λ (m : ℕ). On h l c (record { refusal = m; head = cond (eqb m 0) g h }) k) z o)

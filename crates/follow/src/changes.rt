@@ -9,7 +9,10 @@ ghost use Rattle.rule.specs.Calls.{announce as Announce, instant as Instant};
 ghost use Rattle.voice.specs.Struct.{stateOf};
 ghost use Rattle.voice.specs.Valid.{Fit, Valid};
 ghost use Rattle.voice.specs.Called.{On};
+ghost use Rattle.voice.specs.declared.Kind.the-variants.{Announced};
+ghost use Rattle.change.specs.Started.{startedOf};
 ghost use Rattle.follow.specs.Follow.{changeTo};
+use change::Start;
 use record::DELAY;
 use record::HAS_DELAY;
 use record::HAS_LENGTH;
@@ -24,6 +27,18 @@ pub fn chosen(bit: u32, field: u32, other: u32) -> u32
     ensures { λ r. ⌜ r ≡ cond (eqb bit 0) other field ⌝ }
 {
     if bit == 0 { other } else { field }
+}
+
+// What the change starts with where it is announced.
+pub fn started(head: Head, r: &[u32; 9]) -> Start
+    requires { ⌜ Fit head ⌝ }
+    ensures { λ q. ⌜ ((l : List ℤ) → Valid head l
+        → On head l (Announce (changeTo (now (r .entry)) (stateOf head l))) (startedOf head Announced q) l) ⌝ }
+{
+    let map = r[MAP];
+    let length = chosen(bit(map, HAS_LENGTH), r[LENGTH], head.filter.tuning.length);
+    let delay = chosen(bit(map, HAS_DELAY), r[DELAY], head.filter.tuning.delay);
+    change::ready(head, head.filter.tuning.order, length, delay)
 }
 
 // Announces the change.

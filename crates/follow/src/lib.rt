@@ -1,13 +1,14 @@
 // One record of a score on a voice, but for its wait: what it sets, changes and plucks.
 // A record is the nine numbers that reading it gives.
 ghost use mathlib.Core.Path.{_≡_};
-ghost use mathlib.Core.Bool.{false};
-ghost use mathlib.Core.List.{List, []};
+ghost use mathlib.Core.Bool.{true, false};
+ghost use mathlib.Core.List.{List, [], _∷_};
 ghost use lib.IntN.{ℤ};
+ghost use Rattle.rule.specs.Calls.{announce as Announce};
 ghost use Rattle.rule.specs.State.{State};
 ghost use Rattle.voice.specs.Struct.{stateOf};
 ghost use Rattle.voice.specs.Valid.{Fit, Valid};
-ghost use Rattle.follow.specs.Follow.{lossCalls, changeCalls, pluckCalls, actCalls};
+ghost use Rattle.follow.specs.Follow.{lossCalls, changeCalls, changeTo, pluckCalls, actCalls};
 ghost use Rattle.follow.specs.Does.{Does};
 use crate::changes::chosen;
 use record::AMPLITUDE;
@@ -25,7 +26,7 @@ use record::bit;
 use voice::Answer;
 use voice::Head;
 
-mod changes;
+pub mod changes;
 
 // The samples of a pluck whose count is absent.
 const PLUCK: u32 = 100;
@@ -91,6 +92,20 @@ pub fn sets(r: &[u32; 9]) -> bool
     change + others != 0
 }
 
+// Whether a record has an announced change, and nothing else beside its wait.
+pub fn announces(r: &[u32; 9]) -> bool
+    ensures { λ b. ⌜ (b ≡ true → (v : State)
+        → actCalls (now (r .entry)) v ≡ Announce (changeTo (now (r .entry)) v) ∷ []) ⌝ }
+{
+    let map = r[MAP];
+    let change = bit(map, HAS_LENGTH) + bit(map, HAS_DELAY);
+    let others = bit(map, HAS_LOSS) + bit(map, HAS_AMPLITUDE);
+    if others + bit(map, INSTANT) != 0 {
+        return false;
+    }
+    change != 0
+}
+
 // The parts of a record, where it has them: G, then the change, then the pluck, until one is refused.
 fn parts(line: &[i32; 2112], head: Head, r: &[u32; 9]) -> Answer
     requires { ⌜ Valid head (now line) ⌝ }
@@ -108,7 +123,7 @@ fn parts(line: &[i32; 2112], head: Head, r: &[u32; 9]) -> Answer
     pluck(c.head, r)
 }
 
-// What a record sets: its parts, or at once its change where it has no other.
+// What a record sets: its parts, or an instant change where it has no other.
 pub fn act(line: &[i32; 2112], head: Head, r: &[u32; 9]) -> Answer
     requires { ⌜ Valid head (now line) ⌝ }
     ensures { λ a. ⌜ Does head (now (line .entry))
@@ -122,7 +137,7 @@ pub fn act(line: &[i32; 2112], head: Head, r: &[u32; 9]) -> Answer
         return parts(line, head, r);
     }
     if bit(map, INSTANT) == 0 {
-        return changes::announce(head, r);
+        return parts(line, head, r);
     }
     changes::at_once(line, head, r)
 }

@@ -7,12 +7,15 @@ ghost use Rattle.voice.specs.Valid.{Valid};
 ghost use Rattle.refusal.specs.Returned.{Tests};
 ghost use Rattle.score.specs.Run.{fits};
 ghost use Rattle.score.specs.Played.{PlaysAll, Runs};
+use follow::changes::started;
 use loops::carried::after;
 use record::NUMBER;
 use record::WAIT;
 use record::read_record;
 use record::word;
 use voice::Head;
+use voice::Kind;
+use voice::settle;
 
 // What a run returns: its number, its place, and how many samples it wrote.
 pub struct Played {
@@ -71,7 +74,18 @@ fn play(line: &mut [i32; 2112], mut head: Head, records: &[u8], output: &mut [i3
             head = render::rest(line, head, n, &mut output[done..e]);
         }
         done = e;
-        if follow::sets(&r) {
+        if follow::announces(&r) {
+            let q = started(head, &r);
+            if q.refusal != 0 {
+                return Played {
+                    refusal: q.refusal,
+                    place: index,
+                    written: done,
+                };
+            }
+            let f = q.filter;
+            head = settle(head, Kind::Announced, f, 0);
+        } else if follow::sets(&r) {
             let a = follow::act(line, head, &r);
             if a.refusal != 0 {
                 return Played {

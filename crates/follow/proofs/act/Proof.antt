@@ -1,4 +1,4 @@
--- `follow::act` meets its contract: the parts of the record, or the one call of a change alone.
+-- `follow::act` meets its contract: the parts of the record, or the one call of an instant change alone.
 -- Assumes nothing.
 use mathlib.Core.Path.{sym, subst, _∙_}
 use mathlib.Core.List.{List}
@@ -9,7 +9,7 @@ use Rattle.voice.specs.Struct.{stateOf}
 use Rattle.voice.specs.Called.{On}
 use Rattle.follow.specs.Follow.{change, actCalls}
 use Rattle.follow.specs.Does.{Does}
-use Rattle.follow.proofs.Following.{does-one, change-alone, announced, at-once, on-as}
+use Rattle.follow.proofs.Following.{does-one, change-alone, at-once, on-as}
 use borrow.Author.Needs.{needs}
 use Rattle.follow.proofs.act.Statement.{statement}
 use Rattle.follow.proofs.act.Tie as tie
@@ -70,17 +70,11 @@ module _ (c : tie.After-bit5) where
       (omega (arith, e .if2 .left, e .before .bit4 .ensures)))
       (does-one (s .head) (s .line .now) o)
 
-announce-requires : tie.Need-announce-requires
-announce-requires c κs = search needs
+parts-requires-3 : tie.Need-parts-requires-3
+parts-requires-3 c κs = search needs
 
 returns-3 : tie.Need-returns-3
-returns-3 c =
-    let t = c .before .before in
-    let s = start t in
-    let l = s .args .line .now in
-    made t (on-as (c .announce .ensures l (s .pre))
-    (announced (s .args .r .now) (stateOf (s .args .head) l)
-    (sym (t .bit5 .ensures) ∙ c .before .if3 .taken)))
+returns-3 c = search needs
 
 at-once-requires : tie.Need-at-once-requires
 at-once-requires c κs = search needs
@@ -109,7 +103,7 @@ act-spec =
     parts-requires-2
     returns-2
     bit-requires-5
-    announce-requires
+    parts-requires-3
     returns-3
     at-once-requires
     returns-4)

@@ -7,12 +7,13 @@ use mathlib.Core.Path.{refl}
 use native.Mathlib.Omega.{arith}
 use borrow.Author.Needs.{needs}
 use Rattle.voice.specs.Struct.{stateOf}
+use Rattle.follow.proofs.Following.{start-refused}
 use Rattle.score.proofs.Playing.{begun, all-played, refused}
 use Rattle.score.proofs.play.Proof.Record.{Inv-loop, μ-loop, bytes, opened, lent, voice, left, index}
 use Rattle.score.proofs.play.Proof.Record.{done, output, playing, some, number-is, room}
 use Rattle.score.proofs.play.Proof.Waited.{at, began, place, wait, went, within, whole, waited}
 use Rattle.score.proofs.play.Proof.Followed.{same, fewer, ends-with, plays-on, rendered, acted}
-use Rattle.score.proofs.play.Proof.Followed.{over, followed}
+use Rattle.score.proofs.play.Proof.Followed.{over, followed, told, starts, start, announced}
 use Rattle.score.proofs.play.Statement.{statement}
 use Rattle.score.proofs.play.Tie as tie
 
@@ -102,17 +103,35 @@ part-rest-end c =
 rest-requires : tie.Need-rest-requires Inv-loop μ-loop
 rest-requires c κs = let a = c .before .before .before in (went a .1, within a)
 
+announces-requires : tie.Need-announces-requires Inv-loop μ-loop
+announces-requires c κs = search needs
+
+started-requires : tie.Need-started-requires Inv-loop μ-loop
+started-requires c κs = waited (c .before .before .before .before) .1 .fit
+
+same-length-2 : tie.Need-same-length-2 Inv-loop μ-loop
+same-length-2 c = same (told (c .before .before))
+
+returns-2 : tie.Need-returns-2 Inv-loop μ-loop
+returns-2 c =
+    let q = c .before .before in
+    let n = c .if4 .taken in
+    ends-with (told q) (announced q (start-refused (starts q) (start q) n)) n
+
+settle-requires : tie.Need-settle-requires Inv-loop μ-loop
+settle-requires c κs = search needs
+
 sets-requires : tie.Need-sets-requires Inv-loop μ-loop
 sets-requires c κs = search needs
 
 act-requires : tie.Need-act-requires Inv-loop μ-loop
-act-requires c κs = waited (c .before .before .before .before .before) .1
+act-requires c κs = waited (c .before .before .before .before .before .before .before .before) .1
 
-same-length-2 : tie.Need-same-length-2 Inv-loop μ-loop
-same-length-2 c = same (rendered (c .before .before))
+same-length-3 : tie.Need-same-length-3 Inv-loop μ-loop
+same-length-3 c = same (rendered (c .before .before))
 
-returns-2 : tie.Need-returns-2 Inv-loop μ-loop
-returns-2 c = let a = c .before .before in ends-with (rendered a) (acted a) (c .if4 .taken)
+returns-3 : tie.Need-returns-3 Inv-loop μ-loop
+returns-3 c = let a = c .before .before in ends-with (rendered a) (acted a) (c .if6 .taken)
 
 add-index : tie.Need-add-index Inv-loop μ-loop
 add-index c =
@@ -127,11 +146,11 @@ loop-again c =
     let f = followed c in
     (plays-on (over c) f refl, f .valid, same (over c))
 
-same-length-3 : tie.Need-same-length-3 Inv-loop μ-loop
-same-length-3 c = search needs
+same-length-4 : tie.Need-same-length-4 Inv-loop μ-loop
+same-length-4 c = search needs
 
-returns-3 : tie.Need-returns-3 Inv-loop μ-loop
-returns-3 c =
+returns-4 : tie.Need-returns-4 Inv-loop μ-loop
+returns-4 c =
     let l = c .before .loop in
     let s = c .before .before .before .args in
     all-played (s .records .now) (stateOf (s .head) (s .line .now)) (s .output .now)
@@ -164,12 +183,17 @@ play-spec =
     part-rest-start
     part-rest-end
     rest-requires
-    sets-requires
-    act-requires
+    announces-requires
+    started-requires
     same-length-2
     returns-2
+    settle-requires
+    sets-requires
+    act-requires
+    same-length-3
+    returns-3
     add-index
     loop-less
     loop-again
-    same-length-3
-    returns-3)
+    same-length-4
+    returns-4)

@@ -7,13 +7,18 @@ use Prim.Native.Nat.{ℕ, _+_, _-_, _<_}
 use borrow.Rule.Slice.PartMut.{putMid}
 use lib.IntN.{ℤ}
 use lib.ListN.{length}
+use Rattle.rule.specs.Calls.{Call, announce}
 use Rattle.rule.specs.State.{puts}
 use Rattle.voice.specs.declared.Answer.{Answer}
 use Rattle.voice.specs.declared.Head.{Head}
-use Rattle.voice.specs.Struct.{stateOf}
+use Rattle.voice.specs.declared.Kind.the-variants.{Announced}
+use Rattle.voice.specs.Struct.{stateOf, settledOf}
+use Rattle.voice.specs.Called.{On}
+use Rattle.change.specs.Started.{startedOf}
 use Rattle.record.specs.Record.{fields}
-use Rattle.follow.specs.Follow.{value, actCalls, recordCalls}
+use Rattle.follow.specs.Follow.{value, changeTo, actCalls, recordCalls}
 use Rattle.follow.specs.Does.{Does}
+use Rattle.follow.proofs.Following.{does-one, start-made}
 use Rattle.follow.proofs.Record.{does-as, does-still, record-heard, record-acts}
 use Rattle.score.specs.Played.{PlaysAll}
 use Rattle.score.proofs.Playing.{Playing}
@@ -95,10 +100,31 @@ module _ (c : tie.Joined2 Inv-loop μ-loop) where
       (goes-on (bytes p) (opened p) (lent p) (voice p) (left p) (index p) (done p) (output p) (playing p)
       (some p) (taken wait-read) (samples c) heard ends-is (sym (f .number) ∙ z) (f .state)))
 
+-- ---- an announced change alone
+module _ (c : tie.After-started Inv-loop μ-loop) where
+  abbrev pub told : tie.Joined2 Inv-loop μ-loop
+  told = c .before .before .before .before .before
+
+  abbrev pub starts : Head
+  starts = settledOf (g told) Announced (c .started .result .filter) 0
+
+  pub announced : {a : Answer}
+      → On (g told) (k told) (announce (changeTo (at told .before .before .read-record .last .1 .0)
+      (stateOf (g told) (k told)))) a (k told) → Follows told a
+  announced {a} o =
+      acts told
+      (subst (λ (cs : List Call). Does (g told) (k told) cs a (k told))
+      (sym (c .before .before .before .announces .ensures (c .before .before .if3 .taken) (stateOf (g told) (k told))))
+      (does-one (g told) (k told) o))
+
+  pub start : On (g told) (k told) (announce (changeTo (at told .before .before .read-record .last .1 .0)
+      (stateOf (g told) (k told)))) (startedOf (g told) Announced (c .started .result)) (k told)
+  start = c .started .ensures (k told) (waited told .1)
+
 -- ---- one that was followed
 module _ (c : tie.After-act Inv-loop μ-loop) where
   abbrev pub rendered : tie.Joined2 Inv-loop μ-loop
-  rendered = c .before .before .before .before .before .before
+  rendered = c .before .before .before .before .before .before .before .before .before
 
   pub acted : Follows rendered (c .act .result)
   acted = acts rendered (c .act .ensures)
@@ -111,13 +137,25 @@ module _ (c : tie.Joined3 Inv-loop μ-loop) where
   pub followed : Follows over (record { refusal = 0; head = c .if3 .head })
   followed =
       ⊎-elim
+      (λ j.
+      let q : tie.After-started Inv-loop μ-loop = record {
+        before = record { before = record { before = c .before; if3 = j .0 }; r4 = j .1 };
+        started = j .2;
+      } in
+      announced q (start-made (starts q) (start q) (j .4 .left) (j .7 ∙ j .6 .ensures)))
+      (⊎-elim
       (λ j. does-as (acted (record {
         before = record {
-          before = record { before = record { before = c .before; if3 = j .0 }; act-arg = j .1 };
-          r4 = j .2;
+          before = record {
+            before = record {
+              before = record { before = record { before = record { before = c .before; if3 = j .0 }; r5 = j .1 }; sets = j .2 };
+              if5 = j .3;
+            };
+            act-arg = j .4;
+          };
+          r6 = j .5;
         };
-        act = j .3;
-      })) (j .5 .left) (j .7))
-      (λ j. does-as (acts over (does-still (c .before .sets .ensures (j .0 .left) _) (waited over .1))) refl
-      (j .1))
+        act = j .6;
+      })) (j .8 .left) (j .10))
+      (λ j. does-as (acts over (does-still (j .2 .ensures (j .3 .left) _) (waited over .1))) refl (j .4)))
       (c .if3 .came)

@@ -1,0 +1,75 @@
+-- `follow::announces` meets its contract: where an announced change stands alone, it is the one call.
+-- Assumes nothing.
+use mathlib.Core.Path.{sym, ap, _∙_}
+use mathlib.Core.Bool.{false≢true}
+use mathlib.Core.List.{[], _∷_}
+use Prim.Native.Nat.{_+_}
+use native.Mathlib.Omega.{arith}
+use borrow.Author.Needs.{needs}
+use borrow.Author.Tests.{eqb-false, not-true}
+use Rattle.rule.specs.Calls.{Call}
+use Rattle.follow.proofs.Following.{change-alone, announced}
+use Rattle.follow.proofs.announces.Statement.{statement}
+use Rattle.follow.proofs.announces.Tie as tie
+
+element-copy-out-map : tie.Need-element-copy-out-map
+element-copy-out-map c = search needs
+
+bit-requires : tie.Need-bit-requires
+bit-requires c κs = search needs
+
+bit-requires-2 : tie.Need-bit-requires-2
+bit-requires-2 c κs = search needs
+
+add-change : tie.Need-add-change
+add-change c = search needs
+
+bit-requires-3 : tie.Need-bit-requires-3
+bit-requires-3 c κs = search needs
+
+bit-requires-4 : tie.Need-bit-requires-4
+bit-requires-4 c κs = search needs
+
+add-others : tie.Need-add-others
+add-others c = search needs
+
+bit-requires-5 : tie.Need-bit-requires-5
+bit-requires-5 c κs = search needs
+
+add-if1 : tie.Need-add-if1
+add-if1 c = search needs
+
+returns : tie.Need-returns
+returns c = λ e. absurd (false≢true e)
+
+returns-2 : tie.Need-returns-2
+returns-2 c z v =
+    let e = c .before in
+    let d = e .before in
+    let b = d .before in
+    let a = b .before in
+    let f = a .before in
+    let r = f .before .before .args .r .now in
+    let some = eqb-false (f .bit .result + a .bit2 .result) 0 (not-true _ z) in
+    let others = c .if1 .left in
+    sym (change-alone r v
+    (omega (arith, others, b .bit3 .ensures))
+    (λ n. some (omega (arith, n, f .bit .ensures, a .bit2 .ensures)))
+    (omega (arith, others, d .bit4 .ensures)))
+    ∙ ap (λ (x : Call). x ∷ []) (sym (announced r v (omega (arith, others, e .bit5 .ensures))))
+
+pub announces-spec : {M : Type 1} → statement M
+announces-spec =
+    tie.close
+    (tie.spec
+    element-copy-out-map
+    bit-requires
+    bit-requires-2
+    add-change
+    bit-requires-3
+    bit-requires-4
+    add-others
+    bit-requires-5
+    add-if1
+    returns
+    returns-2)
