@@ -99,8 +99,8 @@ pub fn announces(r: &[u32; 9]) -> bool
 {
     let map = r[MAP];
     let change = bit(map, HAS_LENGTH) + bit(map, HAS_DELAY);
-    let others = bit(map, HAS_LOSS) + bit(map, HAS_AMPLITUDE);
-    if others + bit(map, INSTANT) != 0 {
+    let beside = bit(map, HAS_LOSS) + bit(map, HAS_AMPLITUDE);
+    if beside + bit(map, INSTANT) != 0 {
         return false;
     }
     change != 0

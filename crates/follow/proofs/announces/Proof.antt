@@ -30,8 +30,8 @@ bit-requires-3 c κs = search needs
 bit-requires-4 : tie.Need-bit-requires-4
 bit-requires-4 c κs = search needs
 
-add-others : tie.Need-add-others
-add-others c = search needs
+add-beside : tie.Need-add-beside
+add-beside c = search needs
 
 bit-requires-5 : tie.Need-bit-requires-5
 bit-requires-5 c κs = search needs
@@ -68,7 +68,7 @@ announces-spec =
     add-change
     bit-requires-3
     bit-requires-4
-    add-others
+    add-beside
     bit-requires-5
     add-if1
     returns
