@@ -2,6 +2,7 @@ pub mod Calling
 pub mod Clicks
 pub mod Chain
 pub mod Form
+pub mod Made
 pub mod Over
 pub mod Put
 pub mod Running

@@ -30,11 +30,8 @@ module _ {ws : List ℕ} {xs o : List ℤ} {p : List ℕ} {v : State}
     {out : List ℤ} {nums : List ℕ} {u : State} {at used written k : ℕ}
     (r : Running ws xs o p v out nums u at used written k) (h : at < length ws)
     (w : Item) (w-is : ItemAt ws at w) where
-  abbrev made : List ℤ → Call
-  made = called (w .kind) (w .a) (w .b) (w .c)
-
   abbrev next : Call
-  next = made (drop used xs)
+  next = called (w .kind) (w .a) (w .b) (w .c) (drop used xs)
 
   -- the calls behind it
   abbrev after : List Call
@@ -69,18 +66,11 @@ module _ {ws : List ℕ} {xs o : List ℤ} {p : List ℕ} {v : State}
   unfolding whole
   fitting = fits-are _ _ _ _ _ _ (and-left whole behind both)
 
-  -- ---- it is made on the input q, which is what is left of it, and writes s, what is left of the output
-  module _ {u′ : State} {n z : ℕ} {q s part out′ : List ℤ}
-      (q-is : q ≡ drop used xs) (s-is : s ≡ drop written out)
-      (number-is : n ≡ number (u .voice) (made q)) (voice-is : u′ ≡ call u (made q))
-      (part-is : part ≡ over (put u (made q)) s) (out-is : out′ ≡ take written out ++ part)
+  -- ---- it is made, and writes over what is left of the output
+  module _ {u′ : State} {n z : ℕ} {out′ : List ℤ}
+      (returned : n ≡ number (u .voice) next) (left-as : u′ ≡ call u next)
+      (put-is : out′ ≡ take written out ++ over (put u next) (drop written out))
       (z-is : z ≡ cond (eqb n 0) (w .lends) 0) where
-    returned : n ≡ number (u .voice) next
-    returned = number-is ∙ ap (λ (m : List ℤ). number (u .voice) (made m)) q-is
-
-    left-as : u′ ≡ call u next
-    left-as = voice-is ∙ ap (λ (m : List ℤ). call u (made m)) q-is
-
     put-long : z ≡ length (put u next)
     put-long =
         z-is
@@ -117,9 +107,7 @@ module _ {ws : List ℕ} {xs o : List ℤ} {p : List ℕ} {v : State}
       k-within = omega (arith, fitting .place);
       form = in-form;
       out-is =
-          out-is
-          ∙ ap (λ (m : List ℤ). take written out ++ m)
-          (part-is ∙ ap₂ (λ (x y : List ℤ). over (put u (made x)) y) q-is s-is)
+          put-is
           ∙ ap (λ (m : ℕ). take m out ++ over (put u next) (drop m out)) (r .written-is)
           ∙ over-more outs o out (r .out-is) (put u next);
       nums-is =

@@ -1,19 +1,22 @@
--- `list::run::run` meets its contract: each turn makes the next call. Proof/Loop.antt has the invariant.
--- Assumes nothing.
+-- `list::run::run` meets its contract: each turn makes the next call. Proof/Loop.antt has the invariant,
+-- Proof/Calls.antt the ways to make a call. Assumes nothing.
 mod Loop
+mod Calls
 use native.Mathlib.Omega.{arith}
 use borrow.Author.Needs.{needs}
-use borrow.Rule.Slice.PartAt.{part-to-end}
 use lib.Dec.{eqb}
-use Rattle.render.proofs.Joined.{back}
 use Rattle.voice.specs.Struct.{stateOf}
 use Rattle.list.proofs.Running.{begun, room, out-long, nums-long}
 use Rattle.list.proofs.Running.{all-out, all-written, all-numbers}
-use Rattle.list.proofs.Turn.{at-most, called-next}
+use Rattle.list.proofs.Made.{made-next}
+use Rattle.list.proofs.Turn.{at-most}
 use Rattle.list.proofs.run.run.Proof.Loop.{Inv-loop, μ-loop, turn, start, w, fit}
-use Rattle.list.proofs.run.run.Proof.Loop.{item-at-requires, mul-one, sub-one, part-one-start}
+use Rattle.list.proofs.run.run.Proof.Loop.{item-at-requires, prepares-requires, ready-requires}
+use Rattle.list.proofs.run.run.Proof.Loop.{waits-as-requires, settle-requires, uncommitted-requires}
+use Rattle.list.proofs.run.run.Proof.Loop.{committed-requires, mul-one, sub-one, part-one-start}
 use Rattle.list.proofs.run.run.Proof.Loop.{part-one-end, mul-one-2, sub-one-2, part-one-start-2}
 use Rattle.list.proofs.run.run.Proof.Loop.{part-one-end-2, one-requires}
+use Rattle.list.proofs.run.run.Proof.Calls.{made}
 use Rattle.list.proofs.run.run.Statement.{statement}
 use Rattle.list.proofs.run.run.Tie as tie
 
@@ -26,21 +29,18 @@ loop-holds c =
       b .pre .0,
     )
 
--- where the call was made, and where what it put out is counted
-abbrev made : tie.After-output Inv-loop μ-loop → tie.After-item-at Inv-loop μ-loop
-made c = c .before .before .before .before .before
-
+-- where what the call put out is counted
 abbrev counted : tie.After-if-zero Inv-loop μ-loop → tie.After-item-at Inv-loop μ-loop
-counted c = made (c .before .before)
+counted c = c .before .before .before
 
 mul-numbers : tie.Need-mul-numbers Inv-loop μ-loop
 mul-numbers c =
-    let a = made c in
+    let a = c .before .before in
     omega (arith, turn a .loop .inv .0 .k-within, start a .good .1 .1 .1 .1 .1 .0 .1)
 
 slice-write-numbers : tie.Need-slice-write-numbers Inv-loop μ-loop
 slice-write-numbers c =
-    let a = made c in
+    let a = c .before .before in
     omega (arith, fit a .place, nums-long (turn a .loop .inv .0))
 
 if-zero-requires : tie.Need-if-zero-requires Inv-loop μ-loop
@@ -51,7 +51,7 @@ add-written c =
     let a = counted c in
     omega (
       arith,
-      at-most (eqb (c .before .before .before .one .result .refusal) 0) _ _ (c .if-zero .ensures),
+      at-most (eqb (c .before .if1 .code) 0) _ _ (c .if-zero .ensures),
       fit a .output,
       turn a .loop .inv .0 .written-within,
       start a .good .1 .1 .1 .1 .0 .0,
@@ -78,18 +78,8 @@ loop-less c = omega (arith, counted (c .before) .before .loop-test .taken)
 loop-again : tie.Need-loop-again Inv-loop μ-loop
 loop-again c =
     let a = counted (c .before) in
-    let l = turn a .loop in
-    let i = l .inv .0 in
-    let m = c .before .before .before .before .one in
-    let e = m .ensures in (
-      called-next i (a .before .loop-test .taken) (w a) (a .item-at .ensures)
-          (part-to-end (start a .args .input .now) (l .used)) (part-to-end (l .output) (l .written))
-          (e .0 .number) (e .0 .state) (e .1)
-          (back (l .written) (l .output) (m .last .1 .1 .1 .1 .0)
-          (omega (arith, i .written-within, out-long i)))
-          (c .before .if-zero .ensures),
-      e .0 .valid,
-    )
+    made-next (turn a .loop .inv .0) (a .before .loop-test .taken) (w a) (a .item-at .ensures)
+    (made (c .before .before)) (c .before .if-zero .ensures)
 
 same-length : tie.Need-same-length Inv-loop μ-loop
 same-length c = out-long (c .before .loop .inv .0)
@@ -111,6 +101,12 @@ run-spec =
     μ-loop
     loop-holds
     item-at-requires
+    prepares-requires
+    ready-requires
+    waits-as-requires
+    settle-requires
+    uncommitted-requires
+    committed-requires
     mul-one
     sub-one
     part-one-start

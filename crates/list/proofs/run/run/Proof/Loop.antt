@@ -1,4 +1,4 @@
--- The loop of `list::run::run`: its invariant, with a voice that stays valid, and what `one` is handed.
+-- The loop of `list::run::run`: its invariant, with a voice that stays valid, and what each call is handed.
 -- Assumes nothing.
 use Prim.Native.Nat.{_-_}
 use native.Mathlib.Omega.{arith}
@@ -41,9 +41,28 @@ module _ (c : tie.After-item-at Inv-loop μ-loop) where
       (length (start .args .numbers .now) - turn .loop .k)
   fit = fitting (turn .loop .inv .0) (c .before .loop-test .taken) w (c .item-at .ensures)
 
+-- ---- the calls that change the head in place
+pub prepares-requires : tie.Need-prepares-requires Inv-loop μ-loop
+prepares-requires c κs = search needs
+
+pub ready-requires : tie.Need-ready-requires Inv-loop μ-loop
+ready-requires c κs = turn (c .before .before) .loop .inv .1 .fit
+
+pub waits-as-requires : tie.Need-waits-as-requires Inv-loop μ-loop
+waits-as-requires c κs = search needs
+
+pub settle-requires : tie.Need-settle-requires Inv-loop μ-loop
+settle-requires c κs = search needs
+
+pub uncommitted-requires : tie.Need-uncommitted-requires Inv-loop μ-loop
+uncommitted-requires c κs = turn (c .before .before .before .before) .loop .inv .1 .fit
+
+pub committed-requires : tie.Need-committed-requires Inv-loop μ-loop
+committed-requires c κs = search needs
+
 -- where `one` is handed the output
 abbrev asked : tie.After-one-arg2 Inv-loop μ-loop → tie.After-item-at Inv-loop μ-loop
-asked c = c .before .before
+asked c = c .before .before .before .before .before .before
 
 -- ---- the parts of the input and the output
 pub mul-one : tie.Need-mul-one Inv-loop μ-loop
