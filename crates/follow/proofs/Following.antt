@@ -4,6 +4,7 @@ use mathlib.Core.Path.{_≡_, refl, sym, ap, subst, _∙_}
 use mathlib.Core.Bool.{Bool, true, false, cond}
 use mathlib.Core.List.{List, [], _∷_, _++_}
 use Prim.Native.Nat.{ℕ, _+_}
+use native.Mathlib.Omega.{arith}
 use borrow.Author.Tests.{eq-eqb, ne-eqb}
 use lib.Dec.{eqb}
 use lib.IntN.{ℤ}
@@ -81,6 +82,13 @@ pub no-calls : (r : List ℕ) (v : State) → stands r 3 ≡ 0 → stands r 1 + 
 unfolding actCalls then
 no-calls r v e i j =
     rw (eq-eqb (stands r 3) 0 e, eq-eqb (stands r 1 + stands r 2) 0 i, eq-eqb (stands r 4) 0 j)
+
+-- sums that are 0
+pub none-both : (a b : ℕ) → a + b ≡ 0 → (a ≡ 0) × (b ≡ 0)
+none-both a b e = (omega (arith, e), omega (arith, e))
+
+pub none-of : (a b c : ℕ) → a + b + c ≡ 0 → (a ≡ 0) × (b ≡ 0) × (c ≡ 0)
+none-of a b c e = (omega (arith, e), omega (arith, e), omega (arith, e))
 
 -- a change alone
 pub change-alone : (r : List ℕ) (v : State) → stands r 3 ≡ 0 → (stands r 1 + stands r 2 ≡ 0 → ⊥)

@@ -1,11 +1,11 @@
 -- A buffer in which nothing comes in, rendered at once or in two parts, and where it stands in a longer one.
 -- Assumes nothing.
-use mathlib.Core.Path.{_≡_, sym, ap, ap₂, _∙_}
+use mathlib.Core.Path.{_≡_, sym, ap, ap₂, subst, _∙_}
 use mathlib.Core.Bool.{false}
 use mathlib.Core.List.{List, _++_}
 use Prim.Native.Nat.{ℕ, _-_, _≤_}
 use native.Mathlib.Omega.{arith}
-use borrow.Rule.Slice.PartMut.{putMid, postOf, take-put, drop-put, post-is}
+use borrow.Rule.Slice.PartMut.{putMid, postOf, mid-len, same-len-mid, take-put, drop-put, post-is}
 use lib.IntN.{ℤ}
 use lib.ListN.{length, take, drop}
 use lib.Seq.{length-take-le, take-at, drop-at}
@@ -58,17 +58,42 @@ module _ (b : List ℤ) (h : Head) (l c : List ℤ) (k : Head) (m : List ℤ) (i
           valid = valid;
         }
 
--- ---- a part that is lent once more, after it was put back
-module _ (a e : ℕ) (l x : List ℤ) (h : a ≤ e) (k : e ≤ length l) (n : length x ≡ e - a) where
-  here : length (take a l) ≡ a
-  here = length-take-le a l (omega (arith, h, k))
-
-  pub part-again : take (e - a) (drop a (putMid a (e - a) l x)) ≡ x
+-- ---- a part of an output that is lent once more, after it was put back with x in it
+module _ (a e : ℕ) (out x : List ℤ) (o : a ≤ e) (p : e ≤ length out) (n : length x ≡ e - a) where
+  part-again : take (e - a) (drop a (putMid a (e - a) out x)) ≡ x
   part-again =
-      ap (λ (z : List ℤ). take (e - a) z) (drop-at (take a l) (x ++ postOf a (e - a) l) a here)
-      ∙ take-at x (postOf a (e - a) l) (e - a) n
+      ap (λ (z : List ℤ). take (e - a) z)
+      (drop-at (take a out) (x ++ postOf a (e - a) out) a (length-take-le a out (omega (arith, o, p))))
+      ∙ take-at x (postOf a (e - a) out) (e - a) n
 
-  pub put-again : (y : List ℤ) → putMid a (e - a) (putMid a (e - a) l x) y ≡ putMid a (e - a) l y
+  put-again : (y : List ℤ) → putMid a (e - a) (putMid a (e - a) out x) y ≡ putMid a (e - a) out y
   put-again y =
-      ap₂ (λ (p q : List ℤ). p ++ (y ++ q)) (take-put a (e - a) l x (omega (arith, h, k)))
-      (post-is a e (putMid a (e - a) l x) h ∙ drop-put a e l x h k n ∙ sym (post-is a e l h))
+      ap₂ (λ (p q : List ℤ). p ++ (y ++ q)) (take-put a (e - a) out x (omega (arith, o, p)))
+      (post-is a e (putMid a (e - a) out x) o ∙ drop-put a e out x o p n ∙ sym (post-is a e out o))
+
+-- the part of an output from a to e once its first stretch, i samples, is rendered: with them it is x
+pub record Stretched (a e : ℕ) (out : List ℤ) (h : Head) (l x : List ℤ) (k : Head) (m : List ℤ) (i : ℕ) : Type 0
+  where
+    -- there is no rest
+    pub all : e - a ≤ i → Unfed (take (e - a) (drop a out)) h l x k m
+    -- for the rest the part is lent again
+    pub again : Went false (take (e - a) (drop a out)) h l (take (e - a) (drop a (putMid a (e - a) out x))) k m i
+    pub within : i ≤ length (take (e - a) (drop a (putMid a (e - a) out x)))
+    pub long : length (putMid a (e - a) out x) ≡ length out
+    pub put : (y : List ℤ) → putMid a (e - a) (putMid a (e - a) out x) y ≡ putMid a (e - a) out y
+
+pub stretched : (a e : ℕ) (out : List ℤ) (h : Head) (l x : List ℤ) (k : Head) (m : List ℤ) (i : ℕ) → a ≤ e
+    → e ≤ length out → Went false (take (e - a) (drop a out)) h l x k m i → Stretched a e out h l x k m i
+stretched a e out h l x k m i o p w =
+    let part = take (e - a) (drop a out) in
+    let still = as-long false i x part (w .0 .long) in
+    let many = still ∙ mid-len a e out p in
+    let same = part-again a e out x o p many in
+    let count = ap (λ (l : List ℤ). length l) same in
+    record {
+      all = λ n. unfed-all part h l x k m i w (omega (arith, mid-len a e out p, n));
+      again = subst (λ (b : List ℤ). Went false part h l b k m i) (sym same) w;
+      within = omega (arith, w .0 .within, length-fed false 0 part, still, count);
+      long = same-len-mid a (e - a) out x still;
+      put = put-again a e out x o p many;
+    }

@@ -1,15 +1,15 @@
 -- `follow::act` meets its contract: the parts of the record, or the one call of an instant change alone.
 -- Assumes nothing.
-use mathlib.Core.Path.{sym, subst, _∙_}
+use mathlib.Core.Path.{sym, ap₂, subst, _∙_}
 use mathlib.Core.List.{List}
-use native.Mathlib.Omega.{arith}
+use Prim.Native.Nat.{ℕ, _+_}
 use Rattle.rule.specs.Calls.{Call}
 use Rattle.voice.specs.declared.Answer.{Answer}
 use Rattle.voice.specs.Struct.{stateOf}
 use Rattle.voice.specs.Called.{On}
 use Rattle.follow.specs.Follow.{change, actCalls}
 use Rattle.follow.specs.Does.{Does}
-use Rattle.follow.proofs.Following.{does-one, change-alone, at-once, on-as}
+use Rattle.follow.proofs.Following.{does-one, none-both, change-alone, at-once, on-as}
 use borrow.Author.Needs.{needs}
 use Rattle.follow.proofs.act.Statement.{statement}
 use Rattle.follow.proofs.act.Tie as tie
@@ -63,11 +63,13 @@ module _ (c : tie.After-bit5) where
       let e = c .before in
       let f = e .before .before .before in
       let s = start .args in
+      let g = e .before .before .bit3 in
+      let p = e .before .bit4 in
+      let no = none-both (g .result) (p .result) (e .if2 .left) in
+      let added = ap₂ (λ (x y : ℕ). x + y) (f .before .before .bit .ensures) (f .before .bit2 .ensures) in
       subst (λ (cs : List Call). Does (s .head) (s .line .now) cs a (s .line .now))
-      (change-alone (s .r .now) (stateOf (s .head) (s .line .now))
-      (omega (arith, e .if2 .left, e .before .before .bit3 .ensures))
-      (λ z. f .if1 .left (omega (arith, z, f .before .bit2 .ensures, f .before .before .bit .ensures)))
-      (omega (arith, e .if2 .left, e .before .bit4 .ensures)))
+      (change-alone (s .r .now) (stateOf (s .head) (s .line .now)) (sym (g .ensures) ∙ no .0)
+      (λ z. f .if1 .left (added ∙ z)) (sym (p .ensures) ∙ no .1))
       (does-one (s .head) (s .line .now) o)
 
 parts-requires-3 : tie.Need-parts-requires-3

@@ -1,14 +1,13 @@
 -- `follow::announces` meets its contract: where an announced change stands alone, it is the one call.
 -- Assumes nothing.
-use mathlib.Core.Path.{sym, ap, _∙_}
+use mathlib.Core.Path.{sym, ap, ap₂, _∙_}
 use mathlib.Core.Bool.{false≢true}
 use mathlib.Core.List.{[], _∷_}
-use Prim.Native.Nat.{_+_}
-use native.Mathlib.Omega.{arith}
+use Prim.Native.Nat.{ℕ, _+_}
 use borrow.Author.Needs.{needs}
 use borrow.Author.Tests.{eqb-false, not-true}
 use Rattle.rule.specs.Calls.{Call}
-use Rattle.follow.proofs.Following.{change-alone, announced}
+use Rattle.follow.proofs.Following.{none-of, change-alone, announced}
 use Rattle.follow.proofs.announces.Statement.{statement}
 use Rattle.follow.proofs.announces.Tie as tie
 
@@ -51,12 +50,12 @@ returns-2 c z v =
     let f = a .before in
     let r = f .before .before .args .r .now in
     let some = eqb-false (f .bit .result + a .bit2 .result) 0 (not-true _ z) in
-    let others = c .if1 .left in
+    let no = none-of (b .bit3 .result) (d .bit4 .result) (e .bit5 .result) (c .if1 .left) in
     sym (change-alone r v
-    (omega (arith, others, b .bit3 .ensures))
-    (λ n. some (omega (arith, n, f .bit .ensures, a .bit2 .ensures)))
-    (omega (arith, others, d .bit4 .ensures)))
-    ∙ ap (λ (x : Call). x ∷ []) (sym (announced r v (omega (arith, others, e .bit5 .ensures))))
+    (sym (b .bit3 .ensures) ∙ no .0)
+    (λ n. some (ap₂ (λ (x y : ℕ). x + y) (f .bit .ensures) (a .bit2 .ensures) ∙ n))
+    (sym (d .bit4 .ensures) ∙ no .1))
+    ∙ ap (λ (x : Call). x ∷ []) (sym (announced r v (sym (e .bit5 .ensures) ∙ no .2)))
 
 pub announces-spec : {M : Type 1} → statement M
 announces-spec =

@@ -1,10 +1,11 @@
 -- `follow::sets` meets its contract: where no bit stands, there is no call.
 -- Assumes nothing.
-use Prim.Native.Nat.{_+_}
-use native.Mathlib.Omega.{arith}
+use mathlib.Core.Path.{sym, ap₂, _∙_}
+use Prim.Native.Nat.{ℕ, _+_}
+use native.Mathlib.Nat.{add-assoc}
 use borrow.Author.Needs.{needs}
 use borrow.Author.Tests.{eqb-true, not-false}
-use Rattle.follow.proofs.Following.{no-calls}
+use Rattle.follow.proofs.Following.{none-of, no-calls}
 use Rattle.follow.proofs.sets.Statement.{statement}
 use Rattle.follow.proofs.sets.Tie as tie
 
@@ -40,10 +41,12 @@ returns c z v =
     let r = f .before .before .args .r .now in
     let n = eqb-true (f .bit .result + e .bit2 .result + (d .bit3 .result + c .bit4 .result)) 0
     (not-false _ z) in
+    let no = none-of (f .bit .result + e .bit2 .result) (d .bit3 .result) (c .bit4 .result)
+    (add-assoc (f .bit .result + e .bit2 .result) (d .bit3 .result) (c .bit4 .result) ∙ n) in
     no-calls r v
-    (omega (arith, n, d .bit3 .ensures))
-    (omega (arith, n, f .bit .ensures, e .bit2 .ensures))
-    (omega (arith, n, c .bit4 .ensures))
+    (sym (d .bit3 .ensures) ∙ no .1)
+    (ap₂ (λ (x y : ℕ). x + y) (sym (f .bit .ensures)) (sym (e .bit2 .ensures)) ∙ no .0)
+    (sym (c .bit4 .ensures) ∙ no .2)
 
 pub sets-spec : {M : Type 1} → statement M
 sets-spec =

@@ -11,7 +11,7 @@ use Rattle.follow.proofs.Following.{start-refused}
 use Rattle.score.proofs.Playing.{begun, all-played, refused}
 use Rattle.score.proofs.play.Proof.Record.{Inv-loop, μ-loop, bytes, opened, lent, voice, left, index}
 use Rattle.score.proofs.play.Proof.Record.{done, output, playing, some, number-is, room}
-use Rattle.score.proofs.play.Proof.Waited.{at, began, place, wait, went, within, whole, waited}
+use Rattle.score.proofs.play.Proof.Waited.{at, began, place, wait, went, stretch, waited}
 use Rattle.score.proofs.play.Proof.Followed.{same, fewer, ends-with, plays-on, rendered, acted}
 use Rattle.score.proofs.play.Proof.Followed.{over, followed, told, starts, start, announced}
 use Rattle.score.proofs.play.Statement.{statement}
@@ -98,10 +98,10 @@ part-rest-start c = search needs
 part-rest-end : tie.Need-part-rest-end Inv-loop μ-loop
 part-rest-end c =
     let a = c .before .before in
-    omega (arith, room (wait (began a)), whole a)
+    omega (arith, room (wait (began a)), stretch a .long)
 
 rest-requires : tie.Need-rest-requires Inv-loop μ-loop
-rest-requires c κs = let a = c .before .before .before in (went a .1, within a)
+rest-requires c κs = let a = c .before .before .before in (went a .1, stretch a .within)
 
 announces-requires : tie.Need-announces-requires Inv-loop μ-loop
 announces-requires c κs = search needs
