@@ -10,3 +10,4 @@ pub mod Turn
 pub mod Whole
 pub mod Live
 mod LiveInstance
+pub mod Silence

@@ -2,23 +2,44 @@
 // What a block puts out follows what the blocks before it put out. Contracts cite specs/Performed.antt.
 ghost use mathlib.Core.Path.{_≡_};
 ghost use mathlib.Core.Bool.{true, cond, _||_};
+ghost use Prim.Native.Nat.{_≤_};
 ghost use lib.Dec.{eqb};
-ghost use lib.ListN.{length};
+ghost use lib.ListN.{length, take};
 ghost use Rattle.rule.specs.State.{puts, numbers as Numbers};
 ghost use Rattle.voice.specs.Struct.{stateOf};
 ghost use Rattle.voice.specs.declared.Kind.the-variants.{Announced, Asked};
 ghost use Rattle.voice.specs.Valid.{Valid};
-ghost use Rattle.list.specs.Words.{calls, formed};
-ghost use Rattle.samples.specs.Samples.{over};
+ghost use Rattle.list.specs.Words.{calls, formed, takes};
+ghost use Rattle.samples.specs.Samples.{loudest, over};
 use crate::one::one;
+use crate::words::Item;
 use crate::words::if_zero;
 use crate::words::item_at;
 use change::asked::committed;
 use change::asked::uncommitted;
 use change::ready;
+use loops::carried::after;
+use render::begin;
+use render::rest;
 use voice::Head;
 use voice::Kind;
 use voice::settle;
+
+// Whether a call is a block of as many inputs as outputs in which nothing comes in; input is what is left of it.
+fn is_silent(w: Item, input: &[i32]) -> bool
+    requires { ⌜ (w .takes ≡ takes (w .kind) (w .a)) × (w .takes ≤ length (now input)) ⌝ }
+    ensures { λ r. ⌜ (r ≡ true → (w .kind ≡ 0) × (w .a ≡ w .b)
+        × (loudest (take (w .a) (now (input .entry))) ≤ 0)) ⌝ }
+{
+    if w.kind != 0 {
+        return false;
+    }
+    if w.a != w.b {
+        return false;
+    }
+    let n = w.takes;
+    !samples::sounds(&input[..n])
+}
 
 // Whether a call of this kind starts a change that is to wait: announced, or asked for.
 fn prepares(kind: u32) -> bool
@@ -68,7 +89,15 @@ pub fn run(
     while at < words.len() {
         let w = item_at(words, at);
         let mut code = 0;
-        if prepares(w.kind) {
+        if is_silent(w, &input[used..]) {
+            let e = written + w.lends;
+            let p = begin(line, head, &mut output[written..e]);
+            let n = p.ran.done;
+            head = after(head, p);
+            if n != w.lends {
+                head = rest(line, head, n, &mut output[written..e]);
+            }
+        } else if prepares(w.kind) {
             let q = ready(head, w.a, w.b, w.c);
             code = q.refusal;
             if code == 0 {

@@ -1,6 +1,8 @@
 -- `list::run::run` meets its contract: each turn makes the next call. Proof/Loop.antt has the invariant,
 -- Proof/Calls.antt the ways to make a call. Assumes nothing.
 mod Loop
+mod Silent
+mod Handed
 mod Calls
 use native.Mathlib.Omega.{arith}
 use borrow.Author.Needs.{needs}
@@ -16,6 +18,11 @@ use Rattle.list.proofs.run.run.Proof.Loop.{waits-as-requires, settle-re
 use Rattle.list.proofs.run.run.Proof.Loop.{committed-requires, mul-one, sub-one, part-one-start}
 use Rattle.list.proofs.run.run.Proof.Loop.{part-one-end, mul-one-2, sub-one-2, part-one-start-2}
 use Rattle.list.proofs.run.run.Proof.Loop.{part-one-end-2, one-requires}
+use Rattle.list.proofs.run.run.Proof.Handed.{mul-is-silent, sub-is-silent, part-is-silent-start}
+use Rattle.list.proofs.run.run.Proof.Handed.{part-is-silent-end, is-silent-requires, add-e, mul-begin}
+use Rattle.list.proofs.run.run.Proof.Handed.{sub-begin, part-begin-start, part-begin-end, begin-requires}
+use Rattle.list.proofs.run.run.Proof.Handed.{after-requires, mul-rest, sub-rest, part-rest-start}
+use Rattle.list.proofs.run.run.Proof.Handed.{part-rest-end, rest-requires}
 use Rattle.list.proofs.run.run.Proof.Calls.{made}
 use Rattle.list.proofs.run.run.Statement.{statement}
 use Rattle.list.proofs.run.run.Tie as tie
@@ -31,16 +38,16 @@ loop-holds c =
 
 -- where what the call put out is counted
 abbrev counted : tie.After-if-zero Inv-loop μ-loop → tie.After-item-at Inv-loop μ-loop
-counted c = c .before .before .before
+counted c = c .before .before .before .before
 
 mul-numbers : tie.Need-mul-numbers Inv-loop μ-loop
 mul-numbers c =
-    let a = c .before .before in
+    let a = c .before .before .before in
     omega (arith, turn a .loop .inv .0 .k-within, start a .good .1 .1 .1 .1 .1 .0 .1)
 
 slice-write-numbers : tie.Need-slice-write-numbers Inv-loop μ-loop
 slice-write-numbers c =
-    let a = c .before .before in
+    let a = c .before .before .before in
     omega (arith, fit a .place, nums-long (turn a .loop .inv .0))
 
 if-zero-requires : tie.Need-if-zero-requires Inv-loop μ-loop
@@ -101,6 +108,23 @@ run-spec =
     μ-loop
     loop-holds
     item-at-requires
+    mul-is-silent
+    sub-is-silent
+    part-is-silent-start
+    part-is-silent-end
+    is-silent-requires
+    add-e
+    mul-begin
+    sub-begin
+    part-begin-start
+    part-begin-end
+    begin-requires
+    after-requires
+    mul-rest
+    sub-rest
+    part-rest-start
+    part-rest-end
+    rest-requires
     prepares-requires
     ready-requires
     waits-as-requires

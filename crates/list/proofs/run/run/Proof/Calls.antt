@@ -23,113 +23,139 @@ use Rattle.change.specs.Committed.{committedOf}
 use Rattle.change.proofs.Chosen.{chosen-none, chosen-one}
 use Rattle.list.specs.Words.{called}
 use Rattle.list.proofs.Calling.{known}
-use Rattle.list.proofs.Made.{Made, made-as, made-on, made-still, starting, starting-some}
+use Rattle.list.proofs.Made.{made-as, made-on, made-still, starting, starting-some}
 use Rattle.list.proofs.Running.{out-long}
 use Rattle.list.proofs.run.run.Proof.Loop.{Inv-loop, μ-loop, turn, start, w, fit}
+use Rattle.list.proofs.run.run.Proof.Loop.{head, line, written, output, next, Makes}
+use Rattle.list.proofs.run.run.Proof.Silent.{part, stretch, silent-made}
 use Rattle.list.proofs.run.run.Tie as tie
 
 -- ---- the call w was read
 module _ (a : tie.After-item-at Inv-loop μ-loop) where
-  abbrev head : Head
-  head = turn a .loop .head
-
-  abbrev line : List ℤ
-  line = turn a .loop .line
-
-  abbrev written : ℕ
-  written = turn a .loop .written
-
-  abbrev output : List ℤ
-  output = turn a .loop .output
-
-  abbrev next : List ℤ → Call
-  next = called (w a .kind) (w a .a) (w a .b) (w a .c)
-
-  -- it returned n and left the head g, the line k and the output o
-  abbrev pub Makes : ℕ → Head → List ℤ → List ℤ → Type 0
-  Makes n g k o =
-      Made head line (next (drop (turn a .loop .used) (start a .args .input .now))) written output n g k o
-
   -- ---- in place: the line and the output are as they were
   in-place : {n : ℕ} {g : Head} → 0 < w a .kind
-      → ((xs : List ℤ) → Called head (next xs) (record { refusal = n; head = g })) → Makes n g line output
+      → ((xs : List ℤ) → Called (head a) (next a xs) (record { refusal = n; head = g })) → Makes a n g (line a) (output a)
   in-place some k =
-      made-still (w a .kind) (w a .a) (w a .b) (w a .c) _ written (turn a .loop .inv .1) some
+      made-still (w a .kind) (w a .a) (w a .b) (w a .c) _ (written a) (turn a .loop .inv .1) some
       (fit a .known) (k _)
 
   -- a change that is to wait
   waits : {n : ℕ} {g : Head} (k : Kind) → (eqb (w a .kind) 3 || eqb (w a .kind) 5) ≡ true
       → k ≡ cond (eqb (w a .kind) 3) Announced Asked
-      → Called head (prepare (kindOf k) (tuning (w a .a) (w a .b) (w a .c)))
+      → Called (head a) (prepare (kindOf k) (tuning (w a .a) (w a .b) (w a .c)))
       (record { refusal = n; head = g })
-      → Makes n g line output
+      → Makes a n g (line a) (output a)
   waits k i e f =
       in-place (starting-some (w a .kind) i)
-      (starting head (w a .a) (w a .b) (w a .c) _ (w a .kind) k i e f)
+      (starting (head a) (w a .a) (w a .b) (w a .c) _ (w a .kind) k i e f)
 
   -- a commit
-  commits : {n : ℕ} {g : Head} → w a .kind ≡ 6 → Called head commit (record { refusal = n; head = g })
-      → Makes n g line output
-  commits e f = in-place (omega (arith, e)) (known head (w a .a) (w a .b) (w a .c) _ 6 e (λ xs. f))
+  commits : {n : ℕ} {g : Head} → w a .kind ≡ 6 → Called (head a) commit (record { refusal = n; head = g })
+      → Makes a n g (line a) (output a)
+  commits e f = in-place (omega (arith, e)) (known (head a) (w a .a) (w a .b) (w a .c) _ 6 e (λ xs. f))
 
 -- ---- by `one`
 module _ (c : tie.After-one Inv-loop μ-loop) where
   abbrev asked : tie.After-item-at Inv-loop μ-loop
-  asked = c .before .before .before .before .before .before .before .before
+  asked = c .before .before .before .before .before .before .before .before .before .before .before
 
   -- what it left of the output that was not written
-  abbrev part : List ℤ
-  part = c .one .last .1 .1 .1 .1 .0
+  abbrev left : List ℤ
+  left = c .one .last .1 .1 .1 .1 .0
 
   by-one : Makes asked (c .one .result .refusal) (c .one .result .head) (c .one .last .0)
-      (putMid (written asked) (length (output asked) - written asked) (output asked) part)
+      (putMid (written asked) (length (output asked) - written asked) (output asked) left)
   by-one =
       let i = turn asked .loop .inv .0 in
       made-on (next asked) (written asked) (output asked)
       (part-to-end (start asked .args .input .now) (turn asked .loop .used))
       (part-to-end (output asked) (written asked)) (c .one .ensures .0) (c .one .ensures .1)
-      (back (written asked) (output asked) part (omega (arith, i .written-within, out-long i)))
+      (back (written asked) (output asked) left (omega (arith, i .written-within, out-long i)))
 
 -- ---- whichever it was
 pub made : (c : tie.Joined1 Inv-loop μ-loop)
-    → Makes (c .before .before) (c .if1 .code) (c .if1 .head) (c .if1 .line) (c .if1 .output)
+    → Makes (c .before .before .before) (c .if1 .code) (c .if1 .head) (c .if1 .line) (c .if1 .output)
 made c =
     let p = c .before in
-    let a = p .before in
+    let a = p .before .before in
     let h = head a in
-    let given = sym (p .prepares .ensures) in
     ⊎-elim
-    (λ j. let k = j .4 .result in
-    made-as (waits a k (given ∙ j .0 .taken) (j .4 .ensures)
-    (chosen-one (settledOf h k (j .1 .result .filter) 0) (j .2 .taken) (j .5 .ensures) (j .1 .ensures k)))
-    (j .9 ∙ j .2 .taken) (j .7) (j .6) (j .8))
-    (⊎-elim
-    (λ j. let k = cond (eqb (w a .kind) 3) Announced Asked in
-    made-as (waits a k (given ∙ j .0 .taken) refl
-    (chosen-none (settledOf h k (j .1 .result .filter) 0) (j .2 .left) (j .1 .ensures k)))
-    (j .6) (j .4) (j .3) (j .5))
-    (⊎-elim
-    (λ j. made-as (commits a (j .2 .taken)
-    (chosen-one (committedOf h (h .waiting)) (j .4 .taken) (j .5 .ensures) (j .3 .ensures)))
-    (j .9 ∙ j .4 .taken) (j .7) (j .6) (j .8))
-    (⊎-elim
-    (λ j. made-as (commits a (j .2 .taken)
-    (chosen-none (committedOf h (h .waiting)) (j .4 .left) (j .3 .ensures)))
-    (j .8) (j .6) (j .5) (j .7))
-    (λ j. made-as (by-one (record {
+    (λ j.
+    let q : tie.After-after Inv-loop μ-loop = record {
       before = record {
         before = record {
           before = record {
             before = record {
               before = record { before = record { before = p; if1 = j .0 }; struct-known = j .1 };
-              if3 = j .2;
+              begin-arg = j .2;
             };
-            one-arg = j .3;
+            begin-arg2 = j .3;
           };
-          one-arg2 = j .4;
+          begin = j .4;
         };
-        one-arg3 = j .5;
+        output = j .5;
       };
-      one = j .6;
-    })) (j .12) (j .10) (j .9) (j .11)))))
+      after = j .6;
+    } in
+    made-as (silent-made q (j .11 .ensures (part q) h (line a) (stretch q .again)) (stretch q .put (j .11 .last .1 .1 .1 .0)))
+    (j .16) (j .14) (j .13) (j .15))
+    (⊎-elim
+    (λ j.
+    let q : tie.After-after Inv-loop μ-loop = record {
+      before = record {
+        before = record {
+          before = record {
+            before = record {
+              before = record { before = record { before = p; if1 = j .0 }; struct-known = j .1 };
+              begin-arg = j .2;
+            };
+            begin-arg2 = j .3;
+          };
+          begin = j .4;
+        };
+        output = j .5;
+      };
+      after = j .6;
+    } in
+    made-as (silent-made q (stretch q .all (omega (arith, j .8 .left))) refl) (j .12) (j .10) (j .9) (j .11))
+    (⊎-elim
+    (λ j. let k = j .6 .result in
+    made-as (waits a k (sym (j .1 .ensures) ∙ j .2 .taken) (j .6 .ensures)
+    (chosen-one (settledOf h k (j .3 .result .filter) 0) (j .4 .taken) (j .7 .ensures) (j .3 .ensures k)))
+    (j .11 ∙ j .4 .taken) (j .9) (j .8) (j .10))
+    (⊎-elim
+    (λ j. let k = cond (eqb (w a .kind) 3) Announced Asked in
+    made-as (waits a k (sym (j .1 .ensures) ∙ j .2 .taken) refl
+    (chosen-none (settledOf h k (j .3 .result .filter) 0) (j .4 .left) (j .3 .ensures k)))
+    (j .8) (j .6) (j .5) (j .7))
+    (⊎-elim
+    (λ j. made-as (commits a (j .4 .taken)
+    (chosen-one (committedOf h (h .waiting)) (j .6 .taken) (j .7 .ensures) (j .5 .ensures)))
+    (j .11 ∙ j .6 .taken) (j .9) (j .8) (j .10))
+    (⊎-elim
+    (λ j. made-as (commits a (j .4 .taken)
+    (chosen-none (committedOf h (h .waiting)) (j .6 .left) (j .5 .ensures)))
+    (j .10) (j .8) (j .7) (j .9))
+    (λ j. made-as (by-one (record {
+      before = record {
+        before = record {
+          before = record {
+            before = record {
+              before = record {
+                before = record {
+                  before = record { before = record { before = p; if1 = j .0 }; prepares = j .1 };
+                  if3 = j .2;
+                };
+                struct-known3 = j .3;
+              };
+              if5 = j .4;
+            };
+            one-arg = j .5;
+          };
+          one-arg2 = j .6;
+        };
+        one-arg3 = j .7;
+      };
+      one = j .8;
+    })) (j .14) (j .12) (j .11) (j .13)))))))
     (c .if1 .came)

@@ -1,13 +1,19 @@
 -- The loop of `list::run::run`: its invariant, with a voice that stays valid, and what each call is handed.
 -- Assumes nothing.
-use Prim.Native.Nat.{_-_}
+use mathlib.Core.List.{List}
+use Prim.Native.Nat.{ℕ, _-_}
 use native.Mathlib.Omega.{arith}
 use borrow.Author.Needs.{needs}
 use borrow.Rule.Slice.PartAt.{part-to-end}
-use lib.ListN.{length, length-drop}
+use lib.IntN.{ℤ}
+use lib.ListN.{length, drop, length-drop}
+use Rattle.rule.specs.Calls.{Call}
+use Rattle.voice.specs.declared.Head.{Head}
 use Rattle.voice.specs.Struct.{stateOf}
 use Rattle.voice.specs.Valid.{Valid}
 use Rattle.list.specs.declared.words.Item.{Item}
+use Rattle.list.specs.Words.{called}
+use Rattle.list.proofs.Made.{Made}
 use Rattle.list.proofs.Form.{Fits}
 use Rattle.list.proofs.Running.{Running, out-long, room}
 use Rattle.list.proofs.Turn.{fitting}
@@ -41,12 +47,32 @@ module _ (c : tie.After-item-at Inv-loop μ-loop) where
       (length (start .args .numbers .now) - turn .loop .k)
   fit = fitting (turn .loop .inv .0) (c .before .loop-test .taken) w (c .item-at .ensures)
 
+  abbrev pub head : Head
+  head = turn .loop .head
+
+  abbrev pub line : List ℤ
+  line = turn .loop .line
+
+  abbrev pub written : ℕ
+  written = turn .loop .written
+
+  abbrev pub output : List ℤ
+  output = turn .loop .output
+
+  -- the call on an input
+  abbrev pub next : List ℤ → Call
+  next = called (w .kind) (w .a) (w .b) (w .c)
+
+  -- it returned n and left the head g, the line k and the output o
+  abbrev pub Makes : ℕ → Head → List ℤ → List ℤ → Type 0
+  Makes n g k o = Made head line (next (drop (turn .loop .used) (start .args .input .now))) written output n g k o
+
 -- ---- the calls that change the head in place
 pub prepares-requires : tie.Need-prepares-requires Inv-loop μ-loop
 prepares-requires c κs = search needs
 
 pub ready-requires : tie.Need-ready-requires Inv-loop μ-loop
-ready-requires c κs = turn (c .before .before) .loop .inv .1 .fit
+ready-requires c κs = turn (c .before .before .before .before .before) .loop .inv .1 .fit
 
 pub waits-as-requires : tie.Need-waits-as-requires Inv-loop μ-loop
 waits-as-requires c κs = search needs
@@ -55,24 +81,29 @@ pub settle-requires : tie.Need-settle-requires Inv-loop μ-loop
 settle-requires c κs = search needs
 
 pub uncommitted-requires : tie.Need-uncommitted-requires Inv-loop μ-loop
-uncommitted-requires c κs = turn (c .before .before .before .before) .loop .inv .1 .fit
+uncommitted-requires c κs = turn (c .before .before .before .before .before .before .before) .loop .inv .1 .fit
 
 pub committed-requires : tie.Need-committed-requires Inv-loop μ-loop
 committed-requires c κs = search needs
 
--- where `one` is handed the output
+-- where `one` is handed the input, and the output
+abbrev handed : tie.After-one-arg Inv-loop μ-loop → tie.After-item-at Inv-loop μ-loop
+handed c = c .before .before .before .before .before .before .before .before
+
 abbrev asked : tie.After-one-arg2 Inv-loop μ-loop → tie.After-item-at Inv-loop μ-loop
-asked c = c .before .before .before .before .before .before
+asked c = handed (c .before)
 
 -- ---- the parts of the input and the output
 pub mul-one : tie.Need-mul-one Inv-loop μ-loop
-mul-one c = search needs
+mul-one c =
+    let a = handed c in
+    omega (arith, turn a .loop .inv .0 .used-within, start a .good .1 .1 .1 .0 .1)
 
 pub sub-one : tie.Need-sub-one Inv-loop μ-loop
-sub-one c = search needs
+sub-one c = omega (arith, turn (handed c) .loop .inv .0 .used-within)
 
 pub part-one-start : tie.Need-part-one-start Inv-loop μ-loop
-part-one-start c = search needs
+part-one-start c = omega (arith, turn (handed c) .loop .inv .0 .used-within)
 
 pub part-one-end : tie.Need-part-one-end Inv-loop μ-loop
 part-one-end c = search needs
