@@ -1,5 +1,5 @@
-// The two loops. A loop renders a stretch in which no place comes to the ring's end, with the state and the sum
-// of the next w in locals, and stops before a sample whose output is to be clipped.
+// The two loops. A loop renders a stretch in which no place comes to the ring's end, with the state and the
+// products that the next w takes in locals, and stops before a sample whose output is to be clipped.
 ghost use mathlib.Core.Path.{_≡_};
 ghost use Prim.Native.Nat.{_+_, _-_, _%_, _≤_, _<_, min};
 ghost use lib.IntN.{pos, natAbs, _+ℤ_, _*ℤ_};
@@ -18,8 +18,6 @@ use crate::Led;
 use crate::Ran;
 use crate::input;
 use allpass::filter::eliminate;
-use allpass::filter::take;
-use allpass::filter::weighed;
 use allpass::products::carry;
 use allpass::products::of_state;
 use integer::Value;
@@ -122,14 +120,14 @@ pub fn waiting(
     let c = h.filter.coefficients;
     let at = h.at;
     let mut v = h.filter.state;
-    let mut ahead = weighed(order, c, v);
+    let mut k = of_state(order, c, v);
     let mut u = e.state;
     let mut last = h.last;
     let mut i = 0;
     while i < buffer.len() {
         let x = samples::read(line, from + i);
         let g = samples::read(line, far + i);
-        let t = take(order, c, v, ahead, x);
+        let t = carry(order, c, v, k, x);
         let y = t.y;
         if !samples::is_sample(y) {
             let r = Ran {
@@ -144,7 +142,7 @@ pub fn waiting(
         samples::write(buffer, i, y);
         let n = eliminate(coming, e.coefficients, u, g);
         v = t.state;
-        ahead = t.ahead;
+        k = t.products;
         u = n;
         last = y;
         i = i + 1;

@@ -1,4 +1,4 @@
--- `loops::run::waiting` meets its contract: the invariant is what the loop leaves, and the sum that it carries on.
+-- `loops::run::waiting` meets its contract: the invariant is what the loop leaves, with the products it carries on.
 -- Assumes nothing.
 use mathlib.Core.Path.{_≡_, refl, sym, ap, subst, _∙_}
 use Prim.Native.Nat.{ℕ, suc, _+_, _-_, _%_, _≤_, _<_, min}
@@ -8,11 +8,10 @@ use borrow.Author.Tests.{leb-true, not-false}
 use lib.IntN.{ℤ, pos, natAbs, _+ℤ_, _*ℤ_}
 use lib.ListN.{length}
 use Rattle.integer.specs.Rounding.{M}
-use Rattle.integer.specs.Cut.{R, Q}
+use Rattle.integer.specs.Cut.{Q}
 use Rattle.integer.proofs.Rounding.{clip-abs}
-use Rattle.thiran.specs.Answers.{taps}
-use Rattle.allpass.specs.Allpass.{dot}
-use Rattle.allpass.specs.Stored.{held, Fed}
+use Rattle.allpass.specs.Stored.{Fed}
+use Rattle.allpass.specs.Products.{productsOf}
 use Rattle.voice.specs.declared.Filter.{Filter}
 use Rattle.voice.specs.declared.Waiting.{Waiting}
 use Rattle.voice.specs.declared.Waiting.the-variants.{Prepared}
@@ -31,24 +30,23 @@ use Rattle.loops.proofs.run.waiting.Statement.{statement}
 use Rattle.loops.proofs.run.waiting.Tie as tie
 
 abbrev Inv-loop : tie.InvT-loop
-Inv-loop line₀ order coming fed h e taken from far buffer₀ c at v₀ ahead₀ u₀ last₀ i₀ line buffer v ahead u last i =
+Inv-loop line₀ order coming fed h e taken from far buffer₀ c at v₀ k₀ u₀ last₀ i₀ line buffer v k u last i =
     Went fed buffer₀ h line₀ buffer
     (settledOf (carriedOf h (anewOf order (h .filter) v) last ((h .at + i) % 2112)) (kindIn (h .waiting))
     (anewOf coming e u) (min (taken + i) (h .advance)))
     line i
-    × (ahead .n ≡ R (dot (taps order (h .filter .coefficients)) (held order v)))
+    × (k ≡ productsOf order (h .filter .coefficients) v)
 
 abbrev μ-loop : tie.MeasureT-loop
-μ-loop line₀ order coming fed h e taken from far buffer₀ c at v₀ ahead₀ u₀ last₀ i₀ line buffer v ahead u last i =
+μ-loop line₀ order coming fed h e taken from far buffer₀ c at v₀ k₀ u₀ last₀ i₀ line buffer v k u last i =
     length buffer₀ - i
 
-weighed-requires : tie.Need-weighed-requires Inv-loop μ-loop
-weighed-requires c κs =
+of-state-requires : tie.Need-of-state-requires Inv-loop μ-loop
+of-state-requires c κs =
     let s = c .before .before in
     let h = s .args .h in
     let e = sym (anew-self (h .filter) (s .pre .1 .0 .0)) in
-    let f = tuned-fed (subst (λ (f : Filter). Tuned f) e (s .pre .0 .0 .fit .filter)) {x = pos 0} (omega arith) in
-    (f .least, f .most, f .taps-small, f .state-within)
+    tuned-fed (subst (λ (f : Filter). Tuned f) e (s .pre .0 .0 .fit .filter)) {x = pos 0} (omega arith)
 
 loop-holds : tie.Need-loop-holds Inv-loop μ-loop
 loop-holds c =
@@ -68,7 +66,7 @@ loop-holds c =
           ∙ due-self h (s .pre .1 .0 .0) (s .pre .1 .0 .1) (s .pre .1 .0 .2) z (w .early))
           (s .pre .0 .1)
           (s .pre .0 .0),
-      c .before .before .weighed .ensures,
+      c .before .before .of-state .ensures,
     )
 
 -- where a pass begins, or the loop ends
@@ -224,8 +222,8 @@ module _ (c : tie.After-read2 Inv-loop μ-loop) where
       taken-small l (at within) long (inside within) (valid within .fit .waiting .tuned) (place-far within)
       (c .read2 .ensures) (valid within .line)
 
-take-requires : tie.Need-take-requires Inv-loop μ-loop
-take-requires c κs = (tuned-fed (valid (within c) .fit .filter) (small c), pass (within c) .loop .inv .1)
+carry-requires : tie.Need-carry-requires Inv-loop μ-loop
+carry-requires c κs = (tuned-fed (valid (within c) .fit .filter) (small c), pass (within c) .loop .inv .1)
 
 is-sample-requires : tie.Need-is-sample-requires Inv-loop μ-loop
 is-sample-requires c κs = search needs
@@ -238,16 +236,16 @@ returns c = leaves (pass (within (c .before .before .before .before)))
 
 -- once its output is known to be within the limits
 module _ (c : tie.Else1 Inv-loop μ-loop) where
-  abbrev took : tie.After-take Inv-loop μ-loop
+  abbrev took : tie.After-carry Inv-loop μ-loop
   took = c .before .before .before
 
   abbrev around : tie.In-loop Inv-loop μ-loop
   around = within (took .before)
 
-  y-small : natAbs (took .take .result .y .n) ≤ M
+  y-small : natAbs (took .carry .result .y .n) ≤ M
   y-small =
       let s = c .before .is-sample in
-      leb-true (natAbs (took .take .result .y .n)) M (sym (s .ensures) ∙ not-false (s .result) (c .if1 .left))
+      leb-true (natAbs (took .carry .result .y .n)) M (sym (s .ensures) ∙ not-false (s .result) (c .if1 .left))
 
   input-small : natAbs (inputOf (first around .args .fed) (pass around .loop .buffer) (pass around .loop .i)) ≤ M
   input-small =
@@ -273,7 +271,7 @@ write-requires c κs =
     let l = pass r .loop in
     let a = first r .args in
     let x = inputOf (a .fed) (l .buffer) (l .i) in
-    let y = took e .take .result .y .n in
+    let y = took e .carry .result .y .n in
     let u = (x +ℤ pos 0) +ℤ Q (pos (a .h .loss) *ℤ (y +ℤ l .last .n)) in (
       omega (arith, c .write-arg .given .0 .1, here r, inside r),
       subst (λ (z : ℤ). natAbs z ≤ M) (sym (c .before .newest .ensures)) (clip-abs u),
@@ -294,7 +292,7 @@ eliminate-requires c κs =
     tuned-fed (valid (within t) .fit .waiting .tuned) (small-far t)
 
 -- and its eliminator has moved
-abbrev stored : tie.After-ahead Inv-loop μ-loop → tie.After-buffer Inv-loop μ-loop
+abbrev stored : tie.After-k Inv-loop μ-loop → tie.After-buffer Inv-loop μ-loop
 stored c = c .before .before .before
 
 add-i : tie.Need-add-i Inv-loop μ-loop
@@ -315,8 +313,8 @@ loop-again c =
     let h = s .h in
     let x = inputOf (s .fed) (l .buffer) (l .i) in
     let w = b .before .before .before in
-    let o = t .take .ensures in
-    let y = t .take .result .y in
+    let o = t .carry .ensures in
+    let y = t .carry .result .y in
     let made = taken-circulates (l .line) (at r) (long g) (inside r) (valid r .fit .filter) (place r)
     (for-filter g .read .ensures) (small g) (o .1) (y-small k) (o .0) (h .loss) (l .last .n) x
     (w .before .before .newest .ensures) (here r) (next r) (w .write .ensures) in
@@ -343,13 +341,13 @@ waiting-spec =
     (tie.spec
     Inv-loop
     μ-loop
-    weighed-requires
+    of-state-requires
     loop-holds
     add-read
     read-requires
     add-read-2
     read-requires-2
-    take-requires
+    carry-requires
     is-sample-requires
     same-length
     returns
