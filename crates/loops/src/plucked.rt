@@ -16,8 +16,8 @@ use crate::carried::anew;
 use crate::carried::sung;
 use crate::input;
 use allpass::State;
-use allpass::filter::take;
-use allpass::filter::weighed;
+use allpass::products::carry;
+use allpass::products::of_state;
 use integer::Value;
 use integer::clip;
 use step::feedback::looped;
@@ -53,13 +53,13 @@ fn plucked(
     let c = h.filter.coefficients;
     let at = h.at;
     let mut v = h.filter.state;
-    let mut ahead = weighed(order, c, v);
+    let mut k = of_state(order, c, v);
     let mut p = h.pluck;
     let mut last = h.last;
     let mut i = 0;
     while i < buffer.len() {
         let x = samples::read(line, from + i);
-        let t = take(order, c, v, ahead, x);
+        let t = carry(order, c, v, k, x);
         let y = clip(t.y);
         let o = sound(p);
         let b = looped(h.loss, y, last);
@@ -67,7 +67,7 @@ fn plucked(
         samples::write(line, at + i, s);
         samples::write(buffer, i, y);
         v = t.state;
-        ahead = t.ahead;
+        k = t.products;
         p = o.rest;
         last = y;
         i = i + 1;

@@ -1,4 +1,4 @@
--- `loops::plucked::plucked` meets its contract: the invariant is what the loop leaves, and the sum that it
+-- `loops::plucked::plucked` meets its contract: the invariant is what the loop leaves, with the products it
 -- carries on. Assumes nothing.
 use mathlib.Core.Path.{_≡_, refl, sym, ap, subst, _∙_}
 use Prim.Native.Nat.{ℕ, _+_, _-_, _%_, _≤_, _<_}
@@ -7,11 +7,9 @@ use borrow.Author.Needs.{needs}
 use lib.IntN.{ℤ, pos, natAbs, _+ℤ_, _*ℤ_}
 use lib.ListN.{length}
 use Rattle.integer.specs.Rounding.{M, clip}
-use Rattle.integer.specs.Cut.{R, Q}
+use Rattle.integer.specs.Cut.{Q}
 use Rattle.integer.proofs.Rounding.{clip-abs, clip-kept}
-use Rattle.thiran.specs.Answers.{taps}
-use Rattle.allpass.specs.Allpass.{dot}
-use Rattle.allpass.specs.Stored.{held}
+use Rattle.allpass.specs.Products.{productsOf}
 use Rattle.voice.specs.declared.Filter.{Filter}
 use Rattle.voice.specs.Valid.{Tuned, Valid}
 use Rattle.step.proofs.Filters.{tuned-fed}
@@ -26,22 +24,20 @@ use Rattle.loops.proofs.plucked.plucked.Statement.{statement}
 use Rattle.loops.proofs.plucked.plucked.Tie as tie
 
 abbrev Inv-loop : tie.InvT-loop
-Inv-loop line₀ order fed h from buffer₀ c at v₀ ahead₀ p₀ last₀ i₀ line buffer v ahead p last i =
+Inv-loop line₀ order fed h from buffer₀ c at v₀ k₀ p₀ last₀ i₀ line buffer v k p last i =
     Went fed buffer₀ h line₀ buffer (leftOf h (anewOf order (h .filter) v) last p ((h .at + i) % 2112)) line i
-    × (ahead .n ≡ R (dot (taps order (h .filter .coefficients)) (held order v)))
+    × (k ≡ productsOf order (h .filter .coefficients) v)
 
 abbrev μ-loop : tie.MeasureT-loop
-μ-loop line₀ order fed h from buffer₀ c at v₀ ahead₀ p₀ last₀ i₀ line buffer v ahead p last i =
+μ-loop line₀ order fed h from buffer₀ c at v₀ k₀ p₀ last₀ i₀ line buffer v k p last i =
     length buffer₀ - i
 
-weighed-requires : tie.Need-weighed-requires Inv-loop μ-loop
-weighed-requires c κs =
+of-state-requires : tie.Need-of-state-requires Inv-loop μ-loop
+of-state-requires c κs =
     let s = c .before .before in
     let h = s .args .h in
     let e = sym (anew-self (h .filter) (s .pre .1 .0 .0)) in
-    let t = subst (λ (f : Filter). Tuned f) e (s .pre .0 .0 .fit .filter) in
-    let f = tuned-fed t {x = pos 0} (omega arith) in
-    (f .least, f .most, f .taps-small, f .state-within)
+    tuned-fed (subst (λ (f : Filter). Tuned f) e (s .pre .0 .0 .fit .filter)) {x = pos 0} (omega arith)
 
 loop-holds : tie.Need-loop-holds Inv-loop μ-loop
 loop-holds c =
@@ -55,7 +51,7 @@ loop-holds c =
           ∙ carried-self h (anew-self (h .filter) (s .pre .1 .0 .0)) (s .pre .1 .0 .1))
           (s .pre .0 .1)
           (s .pre .0 .0),
-      w .weighed .ensures,
+      w .of-state .ensures,
     )
 
 -- where a pass begins, or the loop ends
@@ -134,8 +130,8 @@ module _ (c : tie.After-read Inv-loop μ-loop) where
       taken-small l (at within) long (inside within) (valid within .fit .filter) (place within)
       (c .read .ensures) (valid within .line)
 
-take-requires : tie.Need-take-requires Inv-loop μ-loop
-take-requires c κs = (tuned-fed (valid (within c) .fit .filter) (small c), pass (within c) .loop .inv .1)
+carry-requires : tie.Need-carry-requires Inv-loop μ-loop
+carry-requires c κs = (tuned-fed (valid (within c) .fit .filter) (small c), pass (within c) .loop .inv .1)
 
 clip-requires : tie.Need-clip-requires Inv-loop μ-loop
 clip-requires c κs = search needs
@@ -147,7 +143,7 @@ module _ (c : tie.After-clip Inv-loop μ-loop) where
 
   y-small : natAbs (c .clip .result .n) ≤ M
   y-small =
-      subst (λ (z : ℤ). natAbs z ≤ M) (sym (c .clip .ensures)) (clip-abs (c .before .take .result .y .n))
+      subst (λ (z : ℤ). natAbs z ≤ M) (sym (c .clip .ensures)) (clip-abs (c .before .carry .result .y .n))
 
   -- what comes in
   abbrev coming : ℤ
@@ -244,7 +240,7 @@ loop-again c =
     let h = s .h in
     let y = e .clip .result in
     let b = c .before .before .before .before in
-    let o = t .take .ensures in
+    let o = t .carry .ensures in
     let g = t .before in
     let made = taken-circulates (l .line) (at r) (long g) (inside r) (valid r .fit .filter) (place r)
     (g .read .ensures) (small g) (o .1) (y-small e)
@@ -286,11 +282,11 @@ plucked-spec =
     (tie.spec
     Inv-loop
     μ-loop
-    weighed-requires
+    of-state-requires
     loop-holds
     add-read
     read-requires
-    take-requires
+    carry-requires
     clip-requires
     sound-requires
     looped-requires
