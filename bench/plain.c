@@ -80,8 +80,8 @@ stretch(Voice *v, const int32_t *restrict in, int32_t *restrict out, uint32_t n,
         }
         v1 = w;
         if (coming) {
-            int64_t more = (coming > 1 ? b2 * e2 : 0) + (coming > 2 ? b3 * e3 : 0);
-            int64_t e = ahead[i] - (b1 * e1 + more) / 65536;
+            int64_t more = coming > 2 ? b2 * e2 + b3 * e3 : b2 * e2;
+            int64_t e = coming > 1 ? less(ahead[i], more, b1 * e1) : ahead[i] - b1 * e1 / 65536;
             e3 = e2;
             e2 = e1;
             e1 = e;

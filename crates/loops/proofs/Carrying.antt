@@ -6,6 +6,8 @@ use Prim.Native.Nat.{ℕ, suc, _<_, min}
 use native.Mathlib.Omega.{arith}
 use lib.IntN.{ℤ, pos}
 use Rattle.integer.specs.declared.Value.{Value}
+use Rattle.allpass.specs.declared.State.{State}
+use Rattle.allpass.specs.Stored.{held, stored}
 use Rattle.line.specs.Ring.{ring}
 use Rattle.rule.specs.Voice.{announced}
 use Rattle.rule.specs.State.{back}
@@ -17,7 +19,7 @@ use Rattle.voice.specs.declared.Waiting.the-variants.{Idle, Prepared}
 use Rattle.voice.specs.declared.Pluck.{Pluck}
 use Rattle.voice.specs.declared.Head.{Head}
 use Rattle.voice.specs.Struct.{kindOf, withOf, settledOf}
-use Rattle.voice.specs.Valid.{Valid}
+use Rattle.voice.specs.Valid.{Tuned, Valid}
 use Rattle.step.specs.declared.sound.Sounded.{Sounded}
 use Rattle.step.specs.declared.feedback.Circulated.{Circulated}
 use Rattle.step.specs.Sample.{Moved, PluckSounds, Settles, Circulates, Steps}
@@ -29,6 +31,15 @@ use Rattle.loops.specs.Carried.{anewOf, leftOf, carriedOf}
 -- ---- filters
 pub anew-self : {N : ℕ} (f : Filter) → N ≡ f .tuning .order → anewOf N f (f .state) ≡ f
 anew-self f e = rw e
+
+-- the state of a filter whose numbers up to the order are kept
+pub kept-self : {N : ℕ} {v : State} (f : Filter) → Tuned f → N ≡ f .tuning .order → v ≡ stored (held N (f .state))
+    → v ≡ f .state
+kept-self f t e k = k ∙ ap (λ (N : ℕ). stored (held N (f .state))) e ∙ sym (t .past)
+
+pub kept-anew : {N : ℕ} {v : State} (f : Filter) → Tuned f → N ≡ f .tuning .order → v ≡ stored (held N (f .state))
+    → anewOf N f v ≡ f
+kept-anew {N} f t e k = ap (λ (v : State). anewOf N f v) (kept-self f t e k) ∙ anew-self f e
 
 -- ---- with nothing waiting
 pub carried-self : {f : Filter} (h : Head) → f ≡ h .filter → h .waiting ≡ Idle

@@ -16,6 +16,7 @@ use crate::carried::anew;
 use crate::carried::sung;
 use crate::input;
 use allpass::State;
+use allpass::kept;
 use allpass::products::carry;
 use allpass::products::of_state;
 use integer::Value;
@@ -52,7 +53,7 @@ fn plucked(
 {
     let c = h.filter.coefficients;
     let at = h.at;
-    let mut v = h.filter.state;
+    let mut v = kept(order, h.filter.state);
     let mut k = of_state(order, c, v);
     let mut p = h.pluck;
     let mut last = h.last;

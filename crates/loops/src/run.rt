@@ -18,6 +18,7 @@ use crate::Led;
 use crate::Ran;
 use crate::input;
 use allpass::filter::eliminate;
+use allpass::kept;
 use allpass::products::carry;
 use allpass::products::of_state;
 use integer::Value;
@@ -59,7 +60,7 @@ pub fn idle(
 {
     let c = h.filter.coefficients;
     let at = h.at;
-    let mut v = h.filter.state;
+    let mut v = kept(order, h.filter.state);
     let mut k = of_state(order, c, v);
     let mut last = h.last;
     let mut i = 0;
@@ -119,9 +120,9 @@ pub fn waiting(
 {
     let c = h.filter.coefficients;
     let at = h.at;
-    let mut v = h.filter.state;
+    let mut v = kept(order, h.filter.state);
     let mut k = of_state(order, c, v);
-    let mut u = e.state;
+    let mut u = kept(coming, e.state);
     let mut last = h.last;
     let mut i = 0;
     while i < buffer.len() {

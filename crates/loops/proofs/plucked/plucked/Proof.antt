@@ -18,7 +18,7 @@ use Rattle.loops.specs.Fed.{fedOf, inputOf}
 use Rattle.loops.specs.Rendered.{Went}
 use Rattle.loops.proofs.Fed.{length-fed, as-long, input-fed, set-fed}
 use Rattle.loops.proofs.Passes.{started, reads, more}
-use Rattle.loops.proofs.Carrying.{anew-self, carried-self, sung-steps}
+use Rattle.loops.proofs.Carrying.{anew-self, kept-anew, carried-self, sung-steps}
 use Rattle.loops.proofs.Taking.{from-on, taken-small, taken-circulates}
 use Rattle.loops.proofs.plucked.plucked.Statement.{statement}
 use Rattle.loops.proofs.plucked.plucked.Tie as tie
@@ -32,23 +32,31 @@ abbrev μ-loop : tie.MeasureT-loop
 μ-loop line₀ order fed h from buffer₀ c at v₀ k₀ p₀ last₀ i₀ line buffer v k p last i =
     length buffer₀ - i
 
+kept-requires : tie.Need-kept-requires Inv-loop μ-loop
+kept-requires c κs =
+    let s = c .before in
+    let e = sym (anew-self (s .args .h .filter) (s .pre .1 .0 .0)) in
+    let f = tuned-fed (subst (λ (f : Filter). Tuned f) e (s .pre .0 .0 .fit .filter)) {x = pos 0} (omega arith) in
+    (f .least, f .most)
+
 of-state-requires : tie.Need-of-state-requires Inv-loop μ-loop
 of-state-requires c κs =
     let s = c .before .before in
-    let h = s .args .h in
-    let e = sym (anew-self (h .filter) (s .pre .1 .0 .0)) in
-    tuned-fed (subst (λ (f : Filter). Tuned f) e (s .pre .0 .0 .fit .filter)) {x = pos 0} (omega arith)
+    let t = s .pre .0 .0 .fit .filter in
+    let e = sym (kept-anew (s .args .h .filter) t (s .pre .1 .0 .0) (c .kept .ensures)) in
+    tuned-fed (subst (λ (f : Filter). Tuned f) e t) {x = pos 0} (omega arith)
 
 loop-holds : tie.Need-loop-holds Inv-loop μ-loop
 loop-holds c =
     let w = c .before .before in
-    let s = w .before .before .before in
+    let k = w .before in
+    let s = k .before .before in
     let h = s .args .h in
-    let f = anewOf (s .args .order) (h .filter) (h .filter .state) in
-    let z : (h .at + 0) % 2112 ≡ h .at = omega (arith, s .pre .0 .0 .fit .at) in (
+    let f = anewOf (s .args .order) (h .filter) (k .kept .result) in
+    let z : (h .at + 0) % 2112 ≡ h .at = omega (arith, s .pre .0 .0 .fit .at) in
+    let e = kept-anew (h .filter) (s .pre .0 .0 .fit .filter) (s .pre .1 .0 .0) (k .kept .ensures) in (
       started
-          (ap (λ (a : ℕ). leftOf h f (h .last) (h .pluck) a) z
-          ∙ carried-self h (anew-self (h .filter) (s .pre .1 .0 .0)) (s .pre .1 .0 .1))
+          (ap (λ (a : ℕ). leftOf h f (h .last) (h .pluck) a) z ∙ carried-self h e (s .pre .1 .0 .1))
           (s .pre .0 .1)
           (s .pre .0 .0),
       w .of-state .ensures,
@@ -282,6 +290,7 @@ plucked-spec =
     (tie.spec
     Inv-loop
     μ-loop
+    kept-requires
     of-state-requires
     loop-holds
     add-read

@@ -20,7 +20,7 @@ use Rattle.loops.specs.Fed.{fedOf, inputOf}
 use Rattle.loops.specs.Rendered.{Went}
 use Rattle.loops.proofs.Fed.{length-fed, as-long, input-fed, set-fed}
 use Rattle.loops.proofs.Passes.{started, reads, more}
-use Rattle.loops.proofs.Carrying.{anew-self, carried-self, quiet-steps}
+use Rattle.loops.proofs.Carrying.{anew-self, kept-anew, carried-self, quiet-steps}
 use Rattle.loops.proofs.Taking.{from-on, taken-small, taken-circulates}
 use Rattle.loops.proofs.run.idle.Statement.{statement}
 use Rattle.loops.proofs.run.idle.Tie as tie
@@ -33,22 +33,30 @@ Inv-loop line₀ order fed h from buffer₀ c at v₀ k₀ last₀ i₀ line buf
 abbrev μ-loop : tie.MeasureT-loop
 μ-loop line₀ order fed h from buffer₀ c at v₀ k₀ last₀ i₀ line buffer v k last i = length buffer₀ - i
 
+kept-requires : tie.Need-kept-requires Inv-loop μ-loop
+kept-requires c κs =
+    let s = c .before in
+    let e = sym (anew-self (s .args .h .filter) (s .pre .1 .0 .0)) in
+    let f = tuned-fed (subst (λ (f : Filter). Tuned f) e (s .pre .0 .0 .fit .filter)) {x = pos 0} (omega arith) in
+    (f .least, f .most)
+
 of-state-requires : tie.Need-of-state-requires Inv-loop μ-loop
 of-state-requires c κs =
     let s = c .before .before in
-    let h = s .args .h in
-    let e = sym (anew-self (h .filter) (s .pre .1 .0 .0)) in
-    tuned-fed (subst (λ (f : Filter). Tuned f) e (s .pre .0 .0 .fit .filter)) {x = pos 0} (omega arith)
+    let t = s .pre .0 .0 .fit .filter in
+    let e = sym (kept-anew (s .args .h .filter) t (s .pre .1 .0 .0) (c .kept .ensures)) in
+    tuned-fed (subst (λ (f : Filter). Tuned f) e t) {x = pos 0} (omega arith)
 
 loop-holds : tie.Need-loop-holds Inv-loop μ-loop
 loop-holds c =
-    let s = c .before .before .before .before in
+    let k = c .before .before in
+    let s = k .before .before in
     let h = s .args .h in
-    let f = anewOf (s .args .order) (h .filter) (h .filter .state) in
-    let z : (h .at + 0) % 2112 ≡ h .at = omega (arith, s .pre .0 .0 .fit .at) in (
+    let f = anewOf (s .args .order) (h .filter) (k .kept .result) in
+    let z : (h .at + 0) % 2112 ≡ h .at = omega (arith, s .pre .0 .0 .fit .at) in
+    let e = kept-anew (h .filter) (s .pre .0 .0 .fit .filter) (s .pre .1 .0 .0) (k .kept .ensures) in (
       started
-          (ap (λ (a : ℕ). carriedOf h f (h .last) a) z
-          ∙ carried-self h (anew-self (h .filter) (s .pre .1 .0 .0)) (s .pre .1 .0 .1))
+          (ap (λ (a : ℕ). carriedOf h f (h .last) a) z ∙ carried-self h e (s .pre .1 .0 .1))
           (s .pre .0 .1)
           (s .pre .0 .0),
       c .before .of-state .ensures,
@@ -254,6 +262,7 @@ idle-spec =
     (tie.spec
     Inv-loop
     μ-loop
+    kept-requires
     of-state-requires
     loop-holds
     add-read

@@ -10,6 +10,7 @@ use lib.ListN.{length}
 use Rattle.integer.specs.Rounding.{M}
 use Rattle.integer.specs.Cut.{Q}
 use Rattle.integer.proofs.Rounding.{clip-abs}
+use Rattle.allpass.specs.declared.State.{State}
 use Rattle.allpass.specs.Stored.{Fed}
 use Rattle.allpass.specs.Products.{productsOf}
 use Rattle.voice.specs.declared.Filter.{Filter}
@@ -24,7 +25,8 @@ use Rattle.loops.specs.Fed.{fedOf, inputOf}
 use Rattle.loops.specs.Rendered.{Went}
 use Rattle.loops.proofs.Fed.{length-fed, as-long, input-fed, set-fed}
 use Rattle.loops.proofs.Passes.{Passed, started, reads, more}
-use Rattle.loops.proofs.Carrying.{anew-self, led-steps, due-later, due-self, due-as}
+use Rattle.loops.proofs.Carrying.{anew-self, kept-self, kept-anew, led-steps}
+use Rattle.loops.proofs.Carrying.{due-later, due-self, due-as}
 use Rattle.loops.proofs.Taking.{from-on, taken-small, taken-moved, taken-circulates}
 use Rattle.loops.proofs.run.waiting.Statement.{statement}
 use Rattle.loops.proofs.run.waiting.Tie as tie
@@ -41,28 +43,54 @@ abbrev μ-loop : tie.MeasureT-loop
 μ-loop line₀ order coming fed h e taken from far buffer₀ c at v₀ k₀ u₀ last₀ i₀ line buffer v k u last i =
     length buffer₀ - i
 
+kept-requires : tie.Need-kept-requires Inv-loop μ-loop
+kept-requires c κs =
+    let s = c .before in
+    let e = sym (anew-self (s .args .h .filter) (s .pre .1 .0 .0)) in
+    let f = tuned-fed (subst (λ (f : Filter). Tuned f) e (s .pre .0 .0 .fit .filter)) {x = pos 0} (omega arith) in
+    (f .least, f .most)
+
 of-state-requires : tie.Need-of-state-requires Inv-loop μ-loop
 of-state-requires c κs =
     let s = c .before .before in
-    let h = s .args .h in
-    let e = sym (anew-self (h .filter) (s .pre .1 .0 .0)) in
-    tuned-fed (subst (λ (f : Filter). Tuned f) e (s .pre .0 .0 .fit .filter)) {x = pos 0} (omega arith)
+    let t = s .pre .0 .0 .fit .filter in
+    let e = sym (kept-anew (s .args .h .filter) t (s .pre .1 .0 .0) (c .kept .ensures)) in
+    tuned-fed (subst (λ (f : Filter). Tuned f) e t) {x = pos 0} (omega arith)
+
+waits-first : (s : tie.Start Inv-loop μ-loop)
+    → Preparing (s .args .h .advance) (kindIn (s .args .h .waiting)) (s .args .e) (s .args .taken)
+waits-first s =
+    subst (λ (w : Waiting). Waiting-valid (s .args .h .advance) w) (s .pre .1 .0 .2)
+    (s .pre .0 .0 .fit .waiting)
+
+kept-requires-2 : tie.Need-kept-requires-2 Inv-loop μ-loop
+kept-requires-2 c κs =
+    let s = c .before .before .before in
+    let e = sym (anew-self (s .args .e) (s .pre .1 .0 .1)) in
+    let f = tuned-fed (subst (λ (f : Filter). Tuned f) e (waits-first s .tuned)) {x = pos 0} (omega arith) in
+    (f .least, f .most)
 
 loop-holds : tie.Need-loop-holds Inv-loop μ-loop
 loop-holds c =
-    let s = c .before .before .before .before .before in
+    let j = c .before in
+    let q = j .before .before in
+    let s = q .before .before in
     let h = s .args .h in
     let e = s .args .e in
     let t = s .args .taken in
-    let f = anewOf (s .args .order) (h .filter) (h .filter .state) in
-    let d = anewOf (s .args .coming) e (e .state) in
+    let f = anewOf (s .args .order) (h .filter) (q .kept .result) in
+    let d = anewOf (s .args .coming) e (j .kept2 .result) in
     let k = kindIn (h .waiting) in
-    let w : Preparing (h .advance) k e t
-    = subst (λ (w : Waiting). Waiting-valid (h .advance) w) (s .pre .1 .0 .2) (s .pre .0 .0 .fit .waiting) in
+    let w = waits-first s in
     let z : min (t + 0) (h .advance) ≡ t = omega (arith, w .counted) in
     let a : (h .at + 0) % 2112 ≡ h .at = omega (arith, s .pre .0 .0 .fit .at) in (
       started
           (ap (λ (a : ℕ). settledOf (carriedOf h f (h .last) a) k d (min (t + 0) (h .advance))) a
+          ∙ due-as h (h .last) (h .at) k
+          (ap (λ (v : State). anewOf (s .args .order) (h .filter) v)
+          (kept-self (h .filter) (s .pre .0 .0 .fit .filter) (s .pre .1 .0 .0) (q .kept .ensures)))
+          (ap (λ (v : State). anewOf (s .args .coming) e v)
+          (kept-self e (w .tuned) (s .pre .1 .0 .1) (j .kept2 .ensures))) refl
           ∙ due-self h (s .pre .1 .0 .0) (s .pre .1 .0 .1) (s .pre .1 .0 .2) z (w .early))
           (s .pre .0 .1)
           (s .pre .0 .0),
@@ -341,7 +369,9 @@ waiting-spec =
     (tie.spec
     Inv-loop
     μ-loop
+    kept-requires
     of-state-requires
+    kept-requires-2
     loop-holds
     add-read
     read-requires

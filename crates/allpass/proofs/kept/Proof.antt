@@ -1,0 +1,40 @@
+-- `allpass::kept` meets its contract: by the order, the numbers up to it.
+-- Assumes nothing.
+use mathlib.Core.Path.{_≡_, refl, ap, _∙_}
+use mathlib.Core.List.{[], _∷_}
+use native.Mathlib.Omega.{arith}
+use lib.IntN.{ℤ}
+use mir.Syntax.{w64}
+use mir.Val.{toZ, ofZ}
+use Rattle.integer.proofs.View.{read}
+use Rattle.allpass.specs.Stored.{stored}
+use Rattle.allpass.proofs.kept.Statement.{statement}
+use Rattle.allpass.proofs.kept.Tie as tie
+
+returns : tie.Need-returns
+unfolding stored
+returns c =
+    let s = c .before .before in
+    let e : s .args .order ≡ 1 = omega arith in
+    rw (e, read w64 (s .args .v .v1) (c .struct-told .given .0 .1) refl)
+
+returns-2 : tie.Need-returns-2
+unfolding stored
+returns-2 c =
+    let s = c .before .before .before in
+    let e : s .args .order ≡ 2 = omega arith in
+    let v = s .args .v in
+    let p = read w64 (v .v1) (c .struct-told2 .given .0 .1) refl in
+    let q = read w64 (v .v2) (c .struct-told2 .given .1 .0 .1) refl in
+    rw e
+    (ap (λ (x : ℤ). stored (x ∷ toZ w64 (ofZ w64 (v .v2)) ∷ [])) p
+    ∙ ap (λ (x : ℤ). stored (v .v1 ∷ x ∷ [])) q)
+
+returns-3 : tie.Need-returns-3
+unfolding stored
+returns-3 c =
+    let e : c .before .before .args .order ≡ 3 = omega arith in
+    rw e
+
+pub kept-spec : {M : Type 1} → statement M
+kept-spec = tie.close (tie.spec returns returns-2 returns-3)
