@@ -104,7 +104,7 @@ final-close x y k (more {x = x′} {y = y′} p h) = final-close x′ y′ p h
 
 -- ---- R of a sum of products
 module _ (A : List ℤ) (n : norm A ≤ 32768) where
-  pub R-within : {v : List ℤ} → Within (2 * M) v → natAbs (R (dot A v)) ≤ M
+  R-within : {v : List ℤ} → Within (2 * M) v → natAbs (R (dot A v)) ≤ M
   R-within {v} h = omega (arith, R-abs (dot A v), dot-within A h, mul-le-mul-right (2 * M) n)
 
   pub R-close : {v u : List ℤ} {D : ℕ} → Close D v u → natAbs (R (dot A v) -ℤ R (dot A u)) ≤ half D

@@ -1,24 +1,29 @@
--- Laws of specs/Products.antt at each order: the sums that w and the output take, and the products of the next
--- state. Assumes nothing.
+-- Laws of specs/Products.antt: products that are equal one by one, and at each order the sums that w and the
+-- output take and the products of the next state. Assumes nothing.
 use mathlib.Core.Path.{_≡_, refl}
-use mathlib.Core.List.{List, [], _∷_, reverse}
-use Prim.Native.Nat.{ℕ, zero, suc, _*_, _≤_, _^_}
+use mathlib.Core.List.{reverse}
+use Prim.Native.Nat.{ℕ, zero, suc, _≤_}
 use native.Mathlib.Omega.{arith}
-use native.Mathlib.Nat.{mul-le-mul}
-use lib.IntN.{ℤ, pos, natAbs, _+ℤ_, _*ℤ_, +ℤ-idr, +ℤ-comm}
-use Rattle.integer.specs.Rounding.{M}
+use lib.IntN.{ℤ, _+ℤ_, _*ℤ_, +ℤ-idr}
 use Rattle.integer.specs.Cut.{R}
-use Rattle.integer.proofs.Ring.{abs-*, abs-+}
 use Rattle.refusal.specs.Orders.{orders}
-use Rattle.thiran.specs.Coefficients.{norm}
 use Rattle.thiran.specs.Answers.{taps}
 use Rattle.thiran.specs.declared.formula.Coefficients.{Coefficients}
 use Rattle.allpass.specs.Allpass.{dot, shift}
-use Rattle.allpass.specs.Bounds.{Within, none, more}
 use Rattle.allpass.specs.Stored.{stored, held}
-use Rattle.allpass.specs.Products.{scaledOf, lastOf, cutOf, renewedOf, number, productsOf}
+use Rattle.allpass.specs.Products.{scaledOf, lastOf, cutOf, renewedOf, productsOf}
 use Rattle.allpass.specs.declared.State.{State}
 use Rattle.allpass.specs.declared.multiples.Multiples.{Multiples}
+use Rattle.allpass.specs.declared.products.Products.{Products}
+
+-- ---- products that are equal one by one are equal
+abbrev pub of-six : ℤ → ℤ → ℤ → ℤ → ℤ → ℤ → Products
+of-six q a b n d t = record { cut = q; newest = a; older = b; next = n; third = d; turned = t }
+
+pub alike : {q a b n d t q′ a′ b′ n′ d′ t′ : ℤ}
+    → q ≡ q′ → a ≡ a′ → b ≡ b′ → n ≡ n′ → d ≡ d′ → t ≡ t′
+    → of-six q a b n d t ≡ of-six q′ a′ b′ n′ d′ t′
+alike eq ea eb en ed et = rw (eq, ea, eb, en, ed, et)
 
 -- ---- what is told of the products of each order
 module _ (c : Coefficients) (v : State) where

@@ -4,6 +4,7 @@ pub mod filter;
 mod multiples;
 pub mod products;
 mod response;
+pub mod sample;
 
 ghost use mathlib.Core.Path.{_≡_};
 ghost use mathlib.Core.List.{[]};

@@ -1,5 +1,5 @@
-// One sample of the filter with its products carried from sample to sample, for a loop: w is multiplied by
-// each coefficient once, and between one w and the next are a product, a difference and a shift.
+// One sample of the filter, its products carried from sample to sample for a loop: w times each coefficient
+// once, and between one w and the next a product, a difference, a choice by the sum's sign and a shift.
 ghost use mathlib.Core.Path.{_≡_};
 ghost use Prim.Native.Nat.{_≤_, _^_};
 ghost use lib.IntN.{pos, natAbs};

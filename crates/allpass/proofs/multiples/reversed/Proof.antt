@@ -1,6 +1,5 @@
 -- `allpass::multiples::reversed` meets its contract: in order 1 it was made before, else the sum is cut.
 -- Assumes nothing.
-use mathlib.Core.Path.{_≡_}
 use borrow.Author.Needs.{needs}
 use Rattle.allpass.proofs.multiples.reversed.Statement.{statement}
 use Rattle.allpass.proofs.multiples.reversed.Tie as tie

@@ -15,8 +15,7 @@ use Rattle.integer.proofs.View.{read}
 use Rattle.integer.proofs.Ring.{abs-+}
 use Rattle.integer.proofs.Cut.{R-abs}
 use Rattle.thiran.specs.Answers.{taps}
-use Rattle.thiran.specs.declared.formula.Coefficients.{Coefficients}
-use Rattle.allpass.specs.Allpass.{dot, final, shift, inner, next, out}
+use Rattle.allpass.specs.Allpass.{dot, final, shift, next, out}
 use Rattle.allpass.specs.Stored.{stored, held}
 use Rattle.allpass.specs.Products.{scaledOf, lastOf, renewedOf, productsOf}
 use Rattle.allpass.specs.declared.State.{State}
@@ -110,11 +109,12 @@ module _ (c : tie.After-struct-told2) where
       (last-little (N start) x (f .least) (f .most) (little (x-made .before)))
 
 reversed-requires : tie.Need-reversed-requires
-reversed-requires c κs = (
-  λ e. rw (turned-read c) (cut-read c e),
-  omega (arith, last c),
-  rw (turned-read c) (omega (arith, fit (start c) .turned)),
-)
+reversed-requires c κs =
+    let t = sym (turned-read c) in (
+      λ e. cut-read c e ∙ ap (λ (u : ℤ). R (lastOf (N (start c)) (x-made c .scaled .result) +ℤ u)) t,
+      omega (arith, last c),
+      subst (λ (u : ℤ). natAbs u ≤ 2 ^ 42) t (omega (arith, fit (start c) .turned)),
+    )
 
 oldest-requires : tie.Need-oldest-requires
 oldest-requires c κs = search needs
@@ -123,7 +123,10 @@ oldest-requires c κs = search needs
 is-reversed : (c : tie.After-reversed)
     → c .reversed .result .n
     ≡ R (lastOf (N (start (c .before))) (x-made (c .before) .scaled .result) +ℤ k (start (c .before)) .turned)
-is-reversed c = rw (turned-read (c .before)) at (c .reversed .ensures)
+is-reversed c =
+    let t = c .before in
+    c .reversed .ensures
+    ∙ ap (λ (u : ℤ). R (lastOf (N (start t)) (x-made t .scaled .result) +ℤ u)) (turned-read t)
 
 cut-small : (u : ℤ) → natAbs u ≤ 2 ^ 42 → natAbs (R u) ≤ 2 ^ 42
 cut-small u h = omega (arith, R-abs u, div-le-self (natAbs u) 65536)

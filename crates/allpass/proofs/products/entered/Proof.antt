@@ -1,17 +1,14 @@
 -- `allpass::products::entered` meets its contract: by its quotient, or by the sum of two numbers.
 -- Assumes nothing.
-use mathlib.Core.Path.{_≡_, refl, ap, subst, _∙_}
-use Prim.Native.Nat.{ℕ, zero, suc, _≤_}
+use mathlib.Core.Path.{_≡_, ap, _∙_}
 use native.Mathlib.Omega.{arith}
 use borrow.Author.Needs.{needs}
-use lib.IntN.{ℤ, pos, natAbs, _+ℤ_, _-ℤ_}
+use lib.IntN.{ℤ, _-ℤ_}
 use mir.Syntax.{w64}
 use mir.Val.{toZ, ofZ}
 use Rattle.integer.specs.Cut.{R}
 use Rattle.integer.proofs.View.{read}
-use Rattle.thiran.specs.Answers.{taps}
-use Rattle.allpass.specs.Allpass.{dot, inner}
-use Rattle.allpass.specs.Stored.{held}
+use Rattle.allpass.specs.Allpass.{inner}
 use Rattle.allpass.specs.Products.{productsOf}
 use Rattle.allpass.specs.declared.products.Products.{Products}
 use Rattle.allpass.proofs.Renewed.{first-sum, older-sum}

@@ -1,9 +1,11 @@
 -- `allpass::products::joined` meets its contract: each number as it is read.
 -- Assumes nothing.
-use mathlib.Core.Path.{refl}
+use mathlib.Core.Path.{refl, ap, _∙_}
 use borrow.Author.Needs.{needs}
 use mir.Syntax.{w64}
 use Rattle.integer.proofs.View.{read}
+use Rattle.allpass.specs.Products.{turnedOf}
+use Rattle.allpass.proofs.Renewed.{alike}
 use Rattle.allpass.proofs.products.joined.Statement.{statement}
 use Rattle.allpass.proofs.products.joined.Tie as tie
 
@@ -38,16 +40,16 @@ returns c =
       read w64 (x .x2) (p .before .before .struct-told3 .given .1 .0 .1) refl,
       read w64 (y .x3) (p .before .struct-told4 .given .1 .1 .0 .1) refl,
     ) at (p .plus2 .ensures) in
-    let turned = rw (read w64 (y .x1) (b .before .struct-told5 .given .0 .1) refl) at (b .beside .ensures) in
+    let first = read w64 (y .x1) (b .before .struct-told5 .given .0 .1) refl in
+    let turned = b .beside .ensures ∙ ap (turnedOf (s .args .order) x) first in
     let told = c .before .before .before in
-    rw (
-      read w64 (q .quotient .result .n) (told .before .struct-told6 .given .0 .1) (q .quotient .ensures),
-      read w64 (x .x1) (told .struct-told7 .given .0 .1) refl,
-      read w64 (o .plus .result .n) (c .before .before .struct-told8 .given .0 .1) older,
-      read w64 (p .plus2 .result .n) (c .before .struct-told9 .given .0 .1) next,
-      read w64 (x .x3) (told .struct-told7 .given .1 .1 .0 .1) refl,
-      read w64 (b .beside .result .n) (c .struct-told10 .given .0 .1) turned,
-    ) refl
+    alike
+    (read w64 (q .quotient .result .n) (told .before .struct-told6 .given .0 .1) (q .quotient .ensures))
+    (read w64 (x .x1) (told .struct-told7 .given .0 .1) refl)
+    (read w64 (o .plus .result .n) (c .before .before .struct-told8 .given .0 .1) older)
+    (read w64 (p .plus2 .result .n) (c .before .struct-told9 .given .0 .1) next)
+    (read w64 (x .x3) (told .struct-told7 .given .1 .1 .0 .1) refl)
+    (read w64 (b .beside .result .n) (c .struct-told10 .given .0 .1) turned)
 
 pub joined-spec : {M : Type 1} → statement M
 joined-spec = tie.close (tie.spec plus-requires plus-requires-2 beside-requires quotient-requires returns)

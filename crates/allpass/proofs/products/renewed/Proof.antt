@@ -7,6 +7,7 @@ use mir.Val.{toZ, ofZ}
 use Rattle.integer.proofs.View.{read}
 use Rattle.allpass.specs.declared.products.Products.{Products}
 use Rattle.allpass.specs.declared.multiples.Multiples.{Multiples}
+use Rattle.allpass.proofs.Renewed.{alike}
 use Rattle.allpass.proofs.products.renewed.Statement.{statement}
 use Rattle.allpass.proofs.products.renewed.Tie as tie
 
@@ -49,14 +50,13 @@ returns c =
     let n = rw (x2-read t, third-read t) at (p .plus .ensures) in
     let m = rw (newest-read (b .before)) at (b .beside .ensures) in
     let told = c .before .before .before in
-    rw (
-      read w64 (q .quotient .result .n) (told .before .struct-told4 .given .0 .1) (q .quotient .ensures),
-      read w64 (x t .x1) (told .struct-told5 .given .0 .1) refl,
-      read w64 (k t .next) (c .before .before .struct-told6 .given .1 .1 .1 .0 .1) refl,
-      read w64 (p .plus .result .n) (c .before .struct-told7 .given .0 .1) n,
-      read w64 (x t .x3) (told .struct-told5 .given .1 .1 .0 .1) refl,
-      read w64 (b .beside .result .n) (c .struct-told8 .given .0 .1) m,
-    ) refl
+    alike
+    (read w64 (q .quotient .result .n) (told .before .struct-told4 .given .0 .1) (q .quotient .ensures))
+    (read w64 (x t .x1) (told .struct-told5 .given .0 .1) refl)
+    (read w64 (k t .next) (c .before .before .struct-told6 .given .1 .1 .1 .0 .1) refl)
+    (read w64 (p .plus .result .n) (c .before .struct-told7 .given .0 .1) n)
+    (read w64 (x t .x3) (told .struct-told5 .given .1 .1 .0 .1) refl)
+    (read w64 (b .beside .result .n) (c .struct-told8 .given .0 .1) m)
 
 pub renewed-spec : {M : Type 1} → statement M
 renewed-spec = tie.close (tie.spec plus-requires beside-requires quotient-requires returns)
