@@ -8,7 +8,7 @@ ghost use Rattle.integer.specs.Cut.{R};
 ghost use Rattle.refusal.specs.Orders.{orders};
 ghost use Rattle.thiran.specs.Coefficients.{norm};
 ghost use Rattle.thiran.specs.Answers.{taps};
-ghost use Rattle.allpass.specs.Allpass.{dot, final, shift, inner as Inner, next};
+ghost use Rattle.allpass.specs.Allpass.{dot, final, shift, inner as Inner};
 ghost use Rattle.allpass.specs.Bounds.{Within};
 ghost use Rattle.allpass.specs.Stored.{stored, held, Fed};
 use crate::State;
@@ -81,13 +81,4 @@ pub fn inner(order: u32, c: Coefficients, v: State, r: Value, f: Value) -> Value
     ensures { λ w. ⌜ w .n ≡ Inner (taps order c) (held order v) (f .n) ⌝ }
 {
     Value { n: f.n - r.n }
-}
-
-// One sample of the eliminator: the next state.
-pub fn eliminate(order: u32, c: Coefficients, v: State, f: Value) -> State
-    requires { ⌜ Fed order c v (f .n) ⌝ }
-    ensures { λ r. ⌜ r ≡ stored (next (taps order c) (held order v) (f .n)) ⌝ }
-{
-    let w = inner(order, c, v, weighed(order, c, v), f);
-    shifted(order, v, w)
 }

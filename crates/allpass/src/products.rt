@@ -64,7 +64,7 @@ fn third(order: u32, v: State) -> Value
 }
 
 // w.
-fn entered(order: u32, c: Coefficients, v: State, k: Products, f: Value) -> Value
+pub fn entered(order: u32, c: Coefficients, v: State, k: Products, f: Value) -> Value
     requires { ⌜ Fed order c v (f .n) × (k ≡ productsOf order c v) ⌝ }
     ensures { λ w. ⌜ w .n ≡ Inner (taps order c) (held order v) (f .n) ⌝ }
 {

@@ -11,7 +11,7 @@ ghost use Rattle.thiran.specs.Answers.{taps};
 ghost use Rattle.allpass.specs.Length.{response, lastAbove};
 use crate::State;
 use crate::at_rest;
-use crate::filter::eliminate;
+use crate::sample::eliminate;
 use integer::Value;
 use thiran::formula::Coefficients;
 

@@ -1,11 +1,15 @@
-// One sample of the filter by itself, clipped.
+// One sample by itself: of the filter, clipped, and of the eliminator.
 // The products that a loop would carry are made of the state, and those of the next state are left.
 ghost use mathlib.Core.Path.{_≡_};
 ghost use Rattle.thiran.specs.Answers.{taps};
-ghost use Rattle.allpass.specs.Allpass.{next, out};
+ghost use Rattle.allpass.specs.Allpass.{inner as Inner, next, out};
 ghost use Rattle.allpass.specs.Stored.{stored, held, Fed};
 use crate::State;
+use crate::filter::inner;
+use crate::filter::shifted;
+use crate::filter::weighed;
 use crate::products::carry;
+use crate::products::entered;
 use crate::products::of_state;
 use integer::Value;
 use integer::clip;
@@ -29,4 +33,24 @@ pub fn allpass(order: u32, c: Coefficients, v: State, f: Value) -> Filtered
         y: clip(t.y),
         state: s,
     }
+}
+
+// w of the eliminator. In order 2 it is made of products, as a loop makes the filter's: that is faster there alone.
+fn entering(order: u32, c: Coefficients, v: State, f: Value) -> Value
+    requires { ⌜ Fed order c v (f .n) ⌝ }
+    ensures { λ w. ⌜ w .n ≡ Inner (taps order c) (held order v) (f .n) ⌝ }
+{
+    if order == 2 {
+        return entered(order, c, v, of_state(order, c, v), f);
+    }
+    inner(order, c, v, weighed(order, c, v), f)
+}
+
+// One sample of the eliminator: the next state.
+pub fn eliminate(order: u32, c: Coefficients, v: State, f: Value) -> State
+    requires { ⌜ Fed order c v (f .n) ⌝ }
+    ensures { λ r. ⌜ r ≡ stored (next (taps order c) (held order v) (f .n)) ⌝ }
+{
+    let w = entering(order, c, v, f);
+    shifted(order, v, w)
 }

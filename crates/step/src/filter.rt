@@ -5,8 +5,8 @@ ghost use lib.IntN.{natAbs};
 ghost use Rattle.integer.specs.Rounding.{M};
 ghost use Rattle.voice.specs.Valid.{Tuned};
 ghost use Rattle.step.specs.Sample.{Moved, Hears};
-use allpass::filter::eliminate;
 use allpass::sample::allpass;
+use allpass::sample::eliminate;
 use integer::Value;
 use voice::Filter;
 
