@@ -1,5 +1,5 @@
-// Parts of one sample, w among them, and one sample of the eliminator. What differs by order is in `oldest`,
-// `shifted` and `weighed`, which has as many products as the order. A state holds 0 past the order.
+// Parts of one sample, w among them. What differs by order is in `oldest`, `shifted` and `weighed`, which has as
+// many products as the order. A state holds 0 past the order.
 ghost use mathlib.Core.Path.{_≡_};
 ghost use Prim.Native.Nat.{_*_, _≤_};
 ghost use lib.IntN.{pos};

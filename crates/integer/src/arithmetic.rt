@@ -1,5 +1,5 @@
 // Operations on numbers that are small enough, one or two in each function. `less` is the way from a filter's
-// sum of products to its next number, in as few steps as a processor can take.
+// sum of products to its next number: a sum, whose sign chooses, a difference and a shift.
 ghost use mathlib.Core.Path.{_≡_};
 ghost use Prim.Native.Nat.{_≤_, _^_};
 ghost use lib.IntN.{pos, natAbs, _+ℤ_, _-ℤ_, _*ℤ_};
