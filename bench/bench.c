@@ -1,5 +1,5 @@
 /* Times the proved voice against plain C over the same scores and lists, interleaved, in rounds over all rows, and prints
-   a table of the best times. Exit status 0 only where every number and every sample agrees. */
+   a table of the best times and of the rounds' ratios. Exit status 0 only where every number and every sample agrees. */
 #include "../include/jivaszte.h"
 #include "bench.h"
 #include "plain.h"
@@ -7,7 +7,7 @@
 #include <string.h>
 #include <time.h>
 
-enum { ROUNDS = 20, RUNS = 15 };
+enum { RUNS = 15 };
 
 /* A score is short enough to be played within one turn that the system gives a program. */
 static uint8_t score[1 << 18];
@@ -88,9 +88,7 @@ static int again(Row *r)
     int same = best_of(listed ? perform : run, best, &p);
     for (int k = 0; k < 2; k++)
         r->best[k] = r->best[k] == 0 || best[k] < r->best[k] ? best[k] : r->best[k];
-    double ratio = best[0] / best[1];
-    r->low = r->low == 0 || ratio < r->low ? ratio : r->low;
-    r->high = ratio > r->high ? ratio : r->high;
+    r->ratios[r->rounds++] = best[0] / best[1];
     r->written = p.written;
     r->stack = stack_of(listed ? perform_once : run_once);
     same &= p.refusal == JIVASZTE_DONE && (p.place == 0 || !listed);

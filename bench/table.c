@@ -1,6 +1,8 @@
 /* The rows of the tables, and how bench.c prints them. */
 #include "bench.h"
 #include <stdio.h>
+#include <stdlib.h>
+#include <string.h>
 
 static const uint32_t waits[WAITS] = { LEAST_WAIT, 1024, 65535 };
 
@@ -29,15 +31,38 @@ void make_rows(Row *rows)
             rows = add_rows(rows, ORDER, pairs[i][0], pairs[i][1], change, 0, 2);
 }
 
+static int compare(const void *a, const void *b)
+{
+    double x = *(const double *)a, y = *(const double *)b;
+    return (x > y) - (x < y);
+}
+
+/* The ratios of a row's rounds, the least first. */
+static void sorted(const Row *r, double ratios[ROUNDS])
+{
+    memcpy(ratios, r->ratios, sizeof r->ratios);
+    qsort(ratios, ROUNDS, sizeof ratios[0], compare);
+}
+
+/* The median: what slows the machine for a while slows C and proved in the same rounds. */
+static double ratio(const Row *r)
+{
+    double ratios[ROUNDS];
+    sorted(r, ratios);
+    return (ratios[(ROUNDS - 1) / 2] + ratios[ROUNDS / 2]) / 2;
+}
+
 static void print_row(const Row *r)
 {
+    double ratios[ROUNDS];
+    sorted(r, ratios);
     static const char *const changes[] = { "none", "announced", "instant", "asked" };
     static const char *const by[GROUPS] = { "score", "blocks", "blocks with input", "blocks", "blocks" };
     printf("| %s | %u", by[r->group], r->order);
     if (r->to != r->order)
         printf(", %u", r->to);
     printf(" | %s | %u | %.0f | %.0f | %.2f | %.2f to %.2f | %zu | %s |\n", changes[r->change], r->wait,
-           r->written / r->best[0] / 1e6, r->written / r->best[1] / 1e6, r->best[0] / r->best[1], r->low, r->high,
+           r->written / r->best[0] / 1e6, r->written / r->best[1] / 1e6, ratio(r), ratios[0], ratios[ROUNDS - 1],
            r->stack, r->agree ? "yes" : "NO");
 }
 
@@ -57,8 +82,8 @@ static void print_least(const Row *rows, int group, int more)
 {
     double least = 1e9;
     for (const Row *r = rows; r < rows + ROWS; r++)
-        if (r->group == group && (r->wait > LEAST_WAIT) == more && r->best[0] / r->best[1] < least)
-            least = r->best[0] / r->best[1];
+        if (r->group == group && (r->wait > LEAST_WAIT) == more && ratio(r) < least)
+            least = ratio(r);
     if (least < 1e9)
         printf(" %.3f |", least);
     else
