@@ -41,7 +41,8 @@ pub fn started(head: Head, r: &[u32; 9]) -> Start
     change::ready(head, head.filter.tuning.order, length, delay)
 }
 
-// Announces the change.
+// Announces the change, beside other parts of a record. (If this called `started`, that would not be compiled into the
+// loop of a score any more.)
 pub fn announce(head: Head, r: &[u32; 9]) -> Answer
     requires { ⌜ Fit head ⌝ }
     ensures { λ a. ⌜ ((l : List ℤ) → Valid head l

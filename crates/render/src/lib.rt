@@ -11,24 +11,21 @@ ghost use Rattle.integer.specs.Rounding.{M};
 ghost use Rattle.samples.specs.Samples.{loudest};
 ghost use Rattle.rule.specs.State.{blockAfter, blockOut};
 ghost use Rattle.voice.specs.Struct.{stateOf};
-ghost use Rattle.voice.specs.Valid.{Fit, Valid};
+ghost use Rattle.voice.specs.Valid.{Valid};
 ghost use Rattle.loops.specs.Carried.{afterOf};
 ghost use Rattle.loops.specs.Fed.{fedOf};
 ghost use Rattle.loops.specs.Rendered.{Unfed, Went};
-use crate::reach::reach;
+use crate::quiet::quiet;
 use crate::reach::sung;
 use loops::Led;
 use loops::Progress;
-use loops::Ran;
 use loops::carried::after;
 use loops::input;
 use loops::plucked::while_plucked;
-use loops::while_idle;
-use loops::while_waiting;
 use step::step;
 use voice::Head;
-use voice::Waiting;
 
+mod quiet;
 mod reach;
 
 // Renders samples until no pluck sounds, one at least; a change may wait.
@@ -55,50 +52,6 @@ fn sounding(line: &mut [i32; 2112], fed: bool, mut head: Head, buffer: &mut [i32
     Progress {
         head: head,
         done: i,
-    }
-}
-
-// What goes on of a voice while none of its samples is rendered.
-fn none(h: Head) -> Led
-    requires { ⌜ Fit h ⌝ }
-    ensures { λ r. ⌜ (afterOf h r ≡ h) × (r .ran .done ≡ 0) ⌝ }
-{
-    let v = h.filter.state;
-    let y = h.last;
-    let w = h.waiting;
-    let r = Ran {
-        state: v,
-        last: y,
-        done: 0,
-    };
-    match w {
-        Waiting::Idle => Led { ran: r, next: v },
-        Waiting::Prepared(_, e, _) => {
-            let u = e.state;
-            Led { ran: r, next: u }
-        }
-    }
-}
-
-// Renders samples while no pluck sounds, as many as one loop can.
-fn quiet(line: &mut [i32; 2112], fed: bool, h: Head, buffer: &mut [i32]) -> Led
-    requires { ⌜ Valid h (now line) × (loudest (fedOf fed 0 (now buffer)) ≤ M) ⌝ }
-    ensures { λ r. ⌜ Went fed (now (buffer .entry)) h (now (line .entry)) (now (buffer .exit)) (afterOf h r)
-        (now (line .exit)) (r .ran .done) ⌝ }
-    ensures { λ r. ⌜ h .at + r .ran .done ≤ 2112 ⌝ }
-{
-    if h.pluck.left != 0 {
-        return none(h);
-    }
-    let n = line::room(h.at, h.filter.tuning.length as usize, buffer.len());
-    let w = h.waiting;
-    match w {
-        Waiting::Idle => while_idle(line, fed, h, &mut buffer[..n]),
-        Waiting::Prepared(kind, e, taken) => {
-            let m = line::room(h.at, e.tuning.length as usize, n);
-            let k = reach(kind, m, (h.advance - taken) as usize);
-            while_waiting(line, fed, h, e, taken, &mut buffer[..k])
-        }
     }
 }
 

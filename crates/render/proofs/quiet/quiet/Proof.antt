@@ -1,4 +1,4 @@
--- `render::quiet` meets its contract: by what waits, the loop that fits.
+-- `render::quiet::quiet` meets its contract: by what waits, the loop that fits.
 -- Assumes nothing.
 use mathlib.Core.Path.{_≡_, sym, ap, subst, _∙_}
 use Prim.Native.Nat.{ℕ, _-_, _≤_}
@@ -19,8 +19,8 @@ use Rattle.loops.specs.Rendered.{Went}
 use Rattle.loops.proofs.Fed.{length-fed}
 use Rattle.loops.proofs.Rendered.{begun}
 use Rattle.render.proofs.Joined.{fed-quiet, fed-first}
-use Rattle.render.proofs.quiet.Statement.{statement}
-use Rattle.render.proofs.quiet.Tie as tie
+use Rattle.render.proofs.quiet.quiet.Statement.{statement}
+use Rattle.render.proofs.quiet.quiet.Tie as tie
 
 -- fewer samples come no nearer to the ring's end
 fewer : (at k n m : ℕ) → m ≤ n → Apart at k n → Apart at k m

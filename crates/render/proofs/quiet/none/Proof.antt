@@ -1,4 +1,4 @@
--- `render::none` meets its contract: what waits is as it was, since its time has not come.
+-- `render::quiet::none` meets its contract: what waits is as it was, since its time has not come.
 -- Assumes nothing.
 use mathlib.Core.Path.{_≡_, refl, ap, subst, _∙_}
 use Prim.Native.Nat.{ℕ, _+_, _%_, min}
@@ -10,8 +10,8 @@ use Rattle.voice.specs.Valid.{Preparing, Waiting-valid}
 use Rattle.loops.specs.declared.Led.{Led}
 use Rattle.loops.specs.Carried.{carriedOf, goneOf}
 use Rattle.loops.proofs.Carrying.{carried-self, due-self}
-use Rattle.render.proofs.none.Statement.{statement}
-use Rattle.render.proofs.none.Tie as tie
+use Rattle.render.proofs.quiet.none.Statement.{statement}
+use Rattle.render.proofs.quiet.none.Tie as tie
 
 enum-told : tie.Need-enum-told
 enum-told c = search needs
