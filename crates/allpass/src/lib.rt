@@ -37,11 +37,15 @@ pub fn at_rest() -> State
     }
 }
 
-// v, which has 0 past the order, with that 0 in the code: a loop of the order carries no number for it.
+// v, which has 0 past the order, with that 0 in the code: a loop of the order carries no number for it. Of order 0
+// it is 0.
 pub fn kept(order: u32, v: State) -> State
-    requires { ⌜ (1 ≤ order) × (order ≤ orders) ⌝ }
+    requires { ⌜ order ≤ orders ⌝ }
     ensures { λ r. ⌜ r ≡ stored (held order v) ⌝ }
 {
+    if order == 0 {
+        return at_rest();
+    }
     if order < 2 {
         return State {
             v1: v.v1,

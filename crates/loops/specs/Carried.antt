@@ -73,6 +73,12 @@ kindIn (Prepared k e n) = k
 abbrev pub Lasts : Kind → ℕ → ℕ → Type 0
 Lasts k n advance = kindOf k ≡ announced → n ≤ advance
 
+-- what a loop over n samples is told of what waits: the order and the filter of a change that does not take effect
+-- before the last of them, and 0 for an order where nothing waits
+abbrev pub Leads : Waiting → ℕ → Filter → ℕ → ℕ → Type 0
+Leads Idle K e n advance = K ≡ 0
+Leads (Prepared k d t) K e n advance = (K ≡ e .tuning .order) × (d ≡ e) × Lasts k (t + n) advance
+
 -- the head that a stretch leaves of h, beside which this change waits or none: an announced one is in force once it
 -- has taken as many samples as the advance
 abbrev pub goneOf : Waiting → Head → Led → Head

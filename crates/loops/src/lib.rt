@@ -14,7 +14,6 @@ ghost use Rattle.loops.specs.Rendered.{Went};
 use crate::orders::by_order;
 use crate::orders::by_orders;
 use allpass::State;
-use allpass::at_rest;
 use integer::Value;
 use voice::Filter;
 use voice::Head;
@@ -63,9 +62,7 @@ pub fn while_idle(line: &mut [i32; 2112], fed: bool, h: Head, buffer: &mut [i32]
         (now (line .exit)) (r .ran .done) ⌝ }
 {
     let from = line::place(h.at, h.filter.tuning.length as usize);
-    let r = by_order(line, fed, h, from, buffer);
-    let u = at_rest();
-    Led { ran: r, next: u }
+    by_order(line, fed, h, from, buffer)
 }
 
 // Renders samples of the buffer while a change waits; an announced one may take effect at the last.
@@ -87,5 +84,5 @@ pub fn while_waiting(
 {
     let from = line::place(h.at, h.filter.tuning.length as usize);
     let far = line::place(h.at, e.tuning.length as usize);
-    by_orders(line, fed, h, e, taken, from, far, buffer)
+    by_orders(line, fed, h, e, from, far, buffer)
 }

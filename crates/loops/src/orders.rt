@@ -1,40 +1,37 @@
 // A loop that is called with a number for its order is compiled for that order: by the filter's, and by that of
-// a change that waits.
+// a change that waits, 0 where nothing does.
 ghost use mathlib.Core.Path.{_≡_};
-ghost use Prim.Native.Nat.{_+_, _-_, _%_, _≤_, min};
+ghost use Prim.Native.Nat.{_+_, _-_, _%_, _≤_};
 ghost use lib.ListN.{length};
 ghost use Rattle.integer.specs.Rounding.{M};
 ghost use Rattle.samples.specs.Samples.{loudest};
 ghost use Rattle.line.specs.Ring.{Apart};
-ghost use Rattle.voice.specs.declared.Waiting.the-variants.{Idle, Prepared};
-ghost use Rattle.voice.specs.Struct.{settledOf};
+ghost use Rattle.voice.specs.declared.Waiting.the-variants.{Idle};
 ghost use Rattle.voice.specs.Valid.{Tuned, Valid};
-ghost use Rattle.loops.specs.Carried.{anewOf, kindIn, Lasts, ranOf};
+ghost use Rattle.loops.specs.Carried.{afterOf, Leads};
 ghost use Rattle.loops.specs.Fed.{fedOf};
 ghost use Rattle.loops.specs.Rendered.{Went};
 use crate::Led;
-use crate::Ran;
-use crate::run::idle;
-use crate::run::waiting;
+use crate::run::stretch;
 use voice::Filter;
 use voice::Head;
 
 // Renders samples of the buffer while nothing waits, by the loop of its order.
-pub fn by_order(line: &mut [i32; 2112], fed: bool, h: Head, from: usize, buffer: &mut [i32]) -> Ran
+pub fn by_order(line: &mut [i32; 2112], fed: bool, h: Head, from: usize, buffer: &mut [i32]) -> Led
     requires { ⌜ Valid h (now line) × (loudest (fedOf fed 0 (now buffer)) ≤ M) ⌝ }
     requires { ⌜ (h .waiting ≡ Idle) × (h .pluck .left ≡ 0) ⌝ }
     requires { ⌜ (from ≡ (h .at + 2112 - h .filter .tuning .length) % 2112)
         × Apart (h .at) (h .filter .tuning .length) (length (now buffer)) ⌝ }
-    ensures { λ r. ⌜ Went fed (now (buffer .entry)) h (now (line .entry)) (now (buffer .exit))
-        (ranOf h r) (now (line .exit)) (r .done) ⌝ }
+    ensures { λ r. ⌜ Went fed (now (buffer .entry)) h (now (line .entry)) (now (buffer .exit)) (afterOf h r)
+        (now (line .exit)) (r .ran .done) ⌝ }
 {
     if h.filter.tuning.order == 1 {
-        return idle(line, 1, fed, h, from, buffer);
+        return stretch(line, 1, 0, fed, h, h.filter, from, from, buffer);
     }
     if h.filter.tuning.order == 2 {
-        return idle(line, 2, fed, h, from, buffer);
+        return stretch(line, 2, 0, fed, h, h.filter, from, from, buffer);
     }
-    idle(line, 3, fed, h, from, buffer)
+    stretch(line, 3, 0, fed, h, h.filter, from, from, buffer)
 }
 
 // The same while a change waits, by the loop of both orders, that of the filter and that of the change.
@@ -43,46 +40,43 @@ pub fn by_orders(
     fed: bool,
     h: Head,
     e: Filter,
-    taken: u32,
     from: usize,
     far: usize,
     buffer: &mut [i32],
 ) -> Led
-    requires { ⌜ Valid h (now line) × (loudest (fedOf fed 0 (now buffer)) ≤ M)
-        × Lasts (kindIn (h .waiting)) (taken + length (now buffer)) (h .advance) ⌝ }
-    requires { ⌜ (h .waiting ≡ Prepared (kindIn (h .waiting)) e taken) × (h .pluck .left ≡ 0) × Tuned e ⌝ }
+    requires { ⌜ Valid h (now line) × (loudest (fedOf fed 0 (now buffer)) ≤ M) ⌝ }
+    requires { ⌜ (h .pluck .left ≡ 0) × Tuned e
+        × Leads (h .waiting) (e .tuning .order) e (length (now buffer)) (h .advance) ⌝ }
     requires { ⌜ (from ≡ (h .at + 2112 - h .filter .tuning .length) % 2112)
         × (far ≡ (h .at + 2112 - e .tuning .length) % 2112)
         × Apart (h .at) (h .filter .tuning .length) (length (now buffer))
         × Apart (h .at) (e .tuning .length) (length (now buffer)) ⌝ }
-    ensures { λ r. ⌜ Went fed (now (buffer .entry)) h (now (line .entry)) (now (buffer .exit))
-        (settledOf (ranOf h (r .ran)) (kindIn (h .waiting)) (anewOf (e .tuning .order) e (r .next))
-        (min (taken + r .ran .done) (h .advance)))
+    ensures { λ r. ⌜ Went fed (now (buffer .entry)) h (now (line .entry)) (now (buffer .exit)) (afterOf h r)
         (now (line .exit)) (r .ran .done) ⌝ }
 {
     if h.filter.tuning.order == 1 {
         if e.tuning.order == 1 {
-            return waiting(line, 1, 1, fed, h, e, taken, from, far, buffer);
+            return stretch(line, 1, 1, fed, h, e, from, far, buffer);
         }
         if e.tuning.order == 2 {
-            return waiting(line, 1, 2, fed, h, e, taken, from, far, buffer);
+            return stretch(line, 1, 2, fed, h, e, from, far, buffer);
         }
-        return waiting(line, 1, 3, fed, h, e, taken, from, far, buffer);
+        return stretch(line, 1, 3, fed, h, e, from, far, buffer);
     }
     if h.filter.tuning.order == 2 {
         if e.tuning.order == 1 {
-            return waiting(line, 2, 1, fed, h, e, taken, from, far, buffer);
+            return stretch(line, 2, 1, fed, h, e, from, far, buffer);
         }
         if e.tuning.order == 2 {
-            return waiting(line, 2, 2, fed, h, e, taken, from, far, buffer);
+            return stretch(line, 2, 2, fed, h, e, from, far, buffer);
         }
-        return waiting(line, 2, 3, fed, h, e, taken, from, far, buffer);
+        return stretch(line, 2, 3, fed, h, e, from, far, buffer);
     }
     if e.tuning.order == 1 {
-        return waiting(line, 3, 1, fed, h, e, taken, from, far, buffer);
+        return stretch(line, 3, 1, fed, h, e, from, far, buffer);
     }
     if e.tuning.order == 2 {
-        return waiting(line, 3, 2, fed, h, e, taken, from, far, buffer);
+        return stretch(line, 3, 2, fed, h, e, from, far, buffer);
     }
-    waiting(line, 3, 3, fed, h, e, taken, from, far, buffer)
+    stretch(line, 3, 3, fed, h, e, from, far, buffer)
 }

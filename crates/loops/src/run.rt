@@ -1,22 +1,24 @@
-// The two loops. A loop renders a stretch in which no place comes to the ring's end, with the state and the
-// products that the next w takes in locals, and stops before a sample whose output is to be clipped.
+// The loop. It renders a stretch in which no place comes to the ring's end, with the state and the products that
+// the next w takes in locals, and stops before a sample whose output is to be clipped.
 ghost use mathlib.Core.Path.{_≡_};
-ghost use Prim.Native.Nat.{_+_, _-_, _%_, _≤_, _<_, min};
+ghost use Prim.Native.Nat.{_+_, _-_, _%_, _≤_, _<_};
 ghost use lib.IntN.{pos, natAbs, _+ℤ_, _*ℤ_};
 ghost use lib.ListN.{length};
 ghost use Rattle.integer.specs.Rounding.{M, clip as Clip};
 ghost use Rattle.integer.specs.Cut.{Q};
+ghost use Rattle.thiran.specs.Answers.{taps};
+ghost use Rattle.allpass.specs.Allpass.{next};
+ghost use Rattle.allpass.specs.Stored.{stored, held, Fed};
 ghost use Rattle.samples.specs.Samples.{loudest};
 ghost use Rattle.line.specs.Ring.{Apart};
-ghost use Rattle.voice.specs.declared.Waiting.the-variants.{Idle, Prepared};
-ghost use Rattle.voice.specs.Struct.{settledOf};
 ghost use Rattle.voice.specs.Valid.{Valid};
-ghost use Rattle.loops.specs.Carried.{anewOf, kindIn, Lasts, ranOf};
+ghost use Rattle.loops.specs.Carried.{afterOf, Leads};
 ghost use Rattle.loops.specs.Fed.{fedOf, inputOf};
 ghost use Rattle.loops.specs.Rendered.{Went};
 use crate::Led;
 use crate::Ran;
 use crate::input;
+use allpass::State;
 use allpass::kept;
 use allpass::products::carry;
 use allpass::products::of_state;
@@ -24,6 +26,7 @@ use allpass::sample::eliminate;
 use integer::Value;
 use step::feedback::looped;
 use step::feedback::mixed;
+use thiran::formula::Coefficients;
 use voice::Filter;
 use voice::Head;
 
@@ -42,80 +45,38 @@ fn newest(fed: bool, buffer: &[i32], i: usize, loss: u32, y: Value, last: Value)
     b
 }
 
-// Renders samples of the buffer while nothing waits; from is the place that the filter reads at first.
-pub fn idle(
-    line: &mut [i32; 2112],
-    order: u32,
-    fed: bool,
-    h: Head,
-    from: usize,
-    buffer: &mut [i32],
-) -> Ran
-    requires { ⌜ Valid h (now line) × (loudest (fedOf fed 0 (now buffer)) ≤ M) ⌝ }
-    requires { ⌜ (order ≡ h .filter .tuning .order) × (h .waiting ≡ Idle) × (h .pluck .left ≡ 0) ⌝ }
-    requires { ⌜ (from ≡ (h .at + 2112 - h .filter .tuning .length) % 2112)
-        × Apart (h .at) (h .filter .tuning .length) (length (now buffer)) ⌝ }
-    ensures { λ r. ⌜ Went fed (now (buffer .entry)) h (now (line .entry)) (now (buffer .exit))
-        (ranOf h r) (now (line .exit)) (r .done) ⌝ }
+// The next state of an eliminator that takes g; u where none runs.
+fn led(coming: u32, c: Coefficients, u: State, g: Value) -> State
+    requires { ⌜ (1 ≤ coming → Fed coming c u (g .n)) ⌝ }
+    ensures { λ r. ⌜ (1 ≤ coming → r ≡ stored (next (taps coming c) (held coming u) (g .n))) ⌝ }
 {
-    let c = h.filter.coefficients;
-    let at = h.at;
-    let mut v = kept(order, h.filter.state);
-    let mut k = of_state(order, c, v);
-    let mut last = h.last;
-    let mut i = 0;
-    while i < buffer.len() {
-        let x = samples::read(line, from + i);
-        let t = carry(order, c, v, k, x);
-        let y = t.y;
-        if !samples::is_sample(y) {
-            return Ran {
-                state: v,
-                last: last,
-                done: i,
-            };
-        }
-        let s = newest(fed, buffer, i, h.loss, y, last);
-        samples::write(line, at + i, s);
-        samples::write(buffer, i, y);
-        v = t.state;
-        k = t.products;
-        last = y;
-        i = i + 1;
+    if coming == 0 {
+        return u;
     }
-    Ran {
-        state: v,
-        last: last,
-        done: i,
-    }
+    eliminate(coming, c, u, g)
 }
 
-// The same while a change waits; its eliminator e, which took some samples, reads from the place far on.
-// An announced change does not take effect before the end.
-pub fn waiting(
+// Renders samples of the buffer. from and far are the places that the filter and an eliminator e read at first;
+// coming is the order of e, or 0 where nothing waits. An announced change does not take effect before the end.
+pub fn stretch(
     line: &mut [i32; 2112],
     order: u32,
     coming: u32,
     fed: bool,
     h: Head,
     e: Filter,
-    taken: u32,
     from: usize,
     far: usize,
     buffer: &mut [i32],
 ) -> Led
-    requires { ⌜ Valid h (now line) × (loudest (fedOf fed 0 (now buffer)) ≤ M)
-        × Lasts (kindIn (h .waiting)) (taken + length (now buffer)) (h .advance) ⌝ }
-    requires { ⌜ (order ≡ h .filter .tuning .order) × (coming ≡ e .tuning .order)
-        × (h .waiting ≡ Prepared (kindIn (h .waiting)) e taken)
-        × (h .pluck .left ≡ 0) ⌝ }
+    requires { ⌜ Valid h (now line) × (loudest (fedOf fed 0 (now buffer)) ≤ M) ⌝ }
+    requires { ⌜ (order ≡ h .filter .tuning .order) × (h .pluck .left ≡ 0)
+        × Leads (h .waiting) coming e (length (now buffer)) (h .advance) ⌝ }
     requires { ⌜ (from ≡ (h .at + 2112 - h .filter .tuning .length) % 2112)
         × (far ≡ (h .at + 2112 - e .tuning .length) % 2112)
         × Apart (h .at) (h .filter .tuning .length) (length (now buffer))
         × Apart (h .at) (e .tuning .length) (length (now buffer)) ⌝ }
-    ensures { λ r. ⌜ Went fed (now (buffer .entry)) h (now (line .entry)) (now (buffer .exit))
-        (settledOf (ranOf h (r .ran)) (kindIn (h .waiting)) (anewOf (e .tuning .order) e (r .next))
-        (min (taken + r .ran .done) (h .advance)))
+    ensures { λ r. ⌜ Went fed (now (buffer .entry)) h (now (line .entry)) (now (buffer .exit)) (afterOf h r)
         (now (line .exit)) (r .ran .done) ⌝ }
 {
     let c = h.filter.coefficients;
@@ -141,7 +102,7 @@ pub fn waiting(
         let s = newest(fed, buffer, i, h.loss, y, last);
         samples::write(line, at + i, s);
         samples::write(buffer, i, y);
-        let n = eliminate(coming, e.coefficients, u, g);
+        let n = led(coming, e.coefficients, u, g);
         v = t.state;
         k = t.products;
         u = n;

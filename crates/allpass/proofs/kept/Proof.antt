@@ -2,6 +2,7 @@
 -- Assumes nothing.
 use mathlib.Core.Path.{_≡_, refl, ap, _∙_}
 use mathlib.Core.List.{[], _∷_}
+use borrow.Author.Needs.{needs}
 use native.Mathlib.Omega.{arith}
 use lib.IntN.{ℤ}
 use mir.Syntax.{w64}
@@ -11,17 +12,23 @@ use Rattle.allpass.specs.Stored.{stored}
 use Rattle.allpass.proofs.kept.Statement.{statement}
 use Rattle.allpass.proofs.kept.Tie as tie
 
+at-rest-requires : tie.Need-at-rest-requires
+at-rest-requires c κs = search needs
+
 returns : tie.Need-returns
-unfolding stored
-returns c =
-    let s = c .before .before in
-    let e : s .args .order ≡ 1 = omega arith in
-    rw (e, read w64 (s .args .v .v1) (c .struct-told .given .0 .1) refl)
+returns c = rw (c .before .if1 .taken) (c .at-rest .ensures)
 
 returns-2 : tie.Need-returns-2
 unfolding stored
 returns-2 c =
     let s = c .before .before .before in
+    let e : s .args .order ≡ 1 = omega arith in
+    rw (e, read w64 (s .args .v .v1) (c .struct-told .given .0 .1) refl)
+
+returns-3 : tie.Need-returns-3
+unfolding stored
+returns-3 c =
+    let s = c .before .before .before .before in
     let e : s .args .order ≡ 2 = omega arith in
     let v = s .args .v in
     let p = read w64 (v .v1) (c .struct-told2 .given .0 .1) refl in
@@ -30,11 +37,11 @@ returns-2 c =
     (ap (λ (x : ℤ). stored (x ∷ toZ w64 (ofZ w64 (v .v2)) ∷ [])) p
     ∙ ap (λ (x : ℤ). stored (v .v1 ∷ x ∷ [])) q)
 
-returns-3 : tie.Need-returns-3
+returns-4 : tie.Need-returns-4
 unfolding stored
-returns-3 c =
-    let e : c .before .before .args .order ≡ 3 = omega arith in
+returns-4 c =
+    let e : c .before .before .before .args .order ≡ 3 = omega arith in
     rw e
 
 pub kept-spec : {M : Type 1} → statement M
-kept-spec = tie.close (tie.spec returns returns-2 returns-3)
+kept-spec = tie.close (tie.spec at-rest-requires returns returns-2 returns-3 returns-4)

@@ -1,12 +1,12 @@
 -- `loops::while_waiting` meets its contract: its loop's, beside the change that waits.
 -- Assumes nothing.
-use mathlib.Core.Path.{sym, subst}
+use mathlib.Core.Path.{refl, sym, subst}
 use native.Mathlib.Omega.{arith}
 use borrow.Author.Needs.{needs}
+use lib.ListN.{length}
 use Rattle.voice.specs.declared.Waiting.{Waiting}
 use Rattle.voice.specs.Valid.{Preparing, Waiting-valid}
-use Rattle.loops.specs.Carried.{goneOf, kindIn}
-use Rattle.loops.specs.Rendered.{Went}
+use Rattle.loops.specs.Carried.{kindIn, Leads}
 use Rattle.loops.proofs.while_waiting.Statement.{statement}
 use Rattle.loops.proofs.while_waiting.Tie as tie
 
@@ -34,10 +34,14 @@ by-orders-requires : tie.Need-by-orders-requires
 by-orders-requires c κs =
     let far = c .before .before in
     let from = far .before .before in
-    let s = from .before .before in (
-      s .pre .0,
+    let s = from .before .before in
+    let a = s .args in
+    let n = length (a .buffer .now) in
+    let leads = subst (λ (w : Waiting). Leads w (a .e .tuning .order) (a .e) n (a .h .advance))
+    (sym (s .pre .1 .0)) (refl, refl, s .pre .0 .2) in (
+      (s .pre .0 .0, s .pre .0 .1),
       (
-        (s .pre .1 .0, s .pre .1 .1, waits s .tuned),
+        (s .pre .1 .1, waits s .tuned, leads),
         (from .place .ensures, far .place2 .ensures, s .pre .1 .2, s .pre .1 .3),
       ),
     )
@@ -46,16 +50,7 @@ same-length : tie.Need-same-length
 same-length c = search needs
 
 returns : tie.Need-returns
-returns c =
-    let b = c .before in
-    let s = b .before .before .before .before .before .before .before in
-    let a = s .args in
-    let o = b .by-orders in
-    subst
-    (λ (w : Waiting). Went (a .fed) (a .buffer .now) (a .h) (a .line .now) (o .last .1 .1 .1 .1 .1 .1 .1 .0)
-    (goneOf w (a .h) (o .result)) (o .last .0) (o .result .ran .done))
-    (sym (s .pre .1 .0))
-    (o .ensures)
+returns c = search needs
 
 pub while-waiting-spec : {M : Type 1} → statement M
 while-waiting-spec =

@@ -1,16 +1,28 @@
 -- `loops::orders::by_order` meets its contract: the filter's order is 1, 2 or 3.
 -- Assumes nothing.
-use mathlib.Core.Path.{_≡_, sym}
+use mathlib.Core.Path.{_≡_, refl, sym, subst}
 use native.Mathlib.Omega.{arith}
 use borrow.Author.Needs.{needs}
+use lib.ListN.{length}
+use Rattle.voice.specs.declared.Waiting.{Waiting}
+use Rattle.loops.specs.Carried.{Leads}
 use Rattle.loops.proofs.orders.by_order.Statement.{statement}
 use Rattle.loops.proofs.orders.by_order.Tie as tie
 
-idle-requires : tie.Need-idle-requires
-idle-requires c κs =
+-- nothing waits, and no eliminator runs
+none : (s : tie.Start)
+    → Leads (s .args .h .waiting) 0 (s .args .h .filter) (length (s .args .buffer .now)) (s .args .h .advance)
+none s =
+    let h = s .args .h in
+    subst (λ (w : Waiting). Leads w 0 (h .filter) (length (s .args .buffer .now)) (h .advance))
+    (sym (s .pre .1 .0 .0)) refl
+
+stretch-requires : tie.Need-stretch-requires
+stretch-requires c κs =
     let t = c .before .before in
     let s = t .before .before in
-    (s .pre .0, ((sym (t .if1 .taken), s .pre .1 .0 .0, s .pre .1 .0 .1), s .pre .1 .1))
+    let p = s .pre .1 .1 in
+    (s .pre .0, ((sym (t .if1 .taken), s .pre .1 .0 .1, none s), (p .0, p .0, p .1, p .1)))
 
 same-length : tie.Need-same-length
 same-length c = search needs
@@ -18,11 +30,12 @@ same-length c = search needs
 returns : tie.Need-returns
 returns c = search needs
 
-idle-requires-2 : tie.Need-idle-requires-2
-idle-requires-2 c κs =
+stretch-requires-2 : tie.Need-stretch-requires-2
+stretch-requires-2 c κs =
     let t = c .before .before in
     let s = t .before .before .before .before in
-    (s .pre .0, ((sym (t .if2 .taken), s .pre .1 .0 .0, s .pre .1 .0 .1), s .pre .1 .1))
+    let p = s .pre .1 .1 in
+    (s .pre .0, ((sym (t .if2 .taken), s .pre .1 .0 .1, none s), (p .0, p .0, p .1, p .1)))
 
 same-length-2 : tie.Need-same-length-2
 same-length-2 c = search needs
@@ -30,14 +43,15 @@ same-length-2 c = search needs
 returns-2 : tie.Need-returns-2
 returns-2 c = search needs
 
-idle-requires-3 : tie.Need-idle-requires-3
-idle-requires-3 c κs =
+stretch-requires-3 : tie.Need-stretch-requires-3
+stretch-requires-3 c κs =
     let t = c .before .before in
     let s = t .before .before .before .before in
+    let p = s .pre .1 .1 in
     let k = s .pre .0 .0 .fit .filter .takes in
     let three : 3 ≡ s .args .h .filter .tuning .order
     = omega (arith, k .least, k .most, t .if2 .left, t .before .before .if1 .left) in
-    (s .pre .0, ((three, s .pre .1 .0 .0, s .pre .1 .0 .1), s .pre .1 .1))
+    (s .pre .0, ((three, s .pre .1 .0 .1, none s), (p .0, p .0, p .1, p .1)))
 
 same-length-3 : tie.Need-same-length-3
 same-length-3 c = search needs
@@ -49,12 +63,12 @@ pub by-order-spec : {M : Type 1} → statement M
 by-order-spec =
     tie.close
     (tie.spec
-    idle-requires
+    stretch-requires
     same-length
     returns
-    idle-requires-2
+    stretch-requires-2
     same-length-2
     returns-2
-    idle-requires-3
+    stretch-requires-3
     same-length-3
     returns-3)

@@ -1,9 +1,11 @@
 -- `loops::orders::by_orders` meets its contract: both orders are 1, 2 or 3.
 -- Assumes nothing.
-use mathlib.Core.Path.{_≡_, sym}
+use mathlib.Core.Path.{_≡_, sym, subst}
 use Prim.Native.Nat.{ℕ, _≤_}
 use native.Mathlib.Omega.{arith}
 use borrow.Author.Needs.{needs}
+use lib.ListN.{length}
+use Rattle.loops.specs.Carried.{Leads}
 use Rattle.loops.proofs.orders.by_orders.Statement.{statement}
 use Rattle.loops.proofs.orders.by_orders.Tie as tie
 
@@ -11,13 +13,21 @@ use Rattle.loops.proofs.orders.by_orders.Tie as tie
 third : (N : ℕ) → 1 ≤ N → N ≤ 3 → (N ≡ 1 → ⊥) → (N ≡ 2 → ⊥) → 3 ≡ N
 third N l m a b = omega (arith, a, b)
 
-waiting-requires : tie.Need-waiting-requires
-waiting-requires c κs =
+-- the order of the change is K
+leads : (s : tie.Start) {K : ℕ} → K ≡ s .args .e .tuning .order
+    → Leads (s .args .h .waiting) K (s .args .e) (length (s .args .buffer .now)) (s .args .h .advance)
+leads s q =
+    let a = s .args in
+    subst (λ (K : ℕ). Leads (a .h .waiting) K (a .e) (length (a .buffer .now)) (a .h .advance)) (sym q)
+    (s .pre .1 .0 .2)
+
+stretch-requires : tie.Need-stretch-requires
+stretch-requires c κs =
     let t = c .before .before in
     let s = t .before .before .before .before in
     let n = sym (t .before .before .if1 .taken) in
     let k = sym (t .if2 .taken) in
-    (s .pre .0, ((n, k, s .pre .1 .0 .0, s .pre .1 .0 .1), s .pre .1 .1))
+    (s .pre .0, ((n, s .pre .1 .0 .0, leads s k), s .pre .1 .1))
 
 same-length : tie.Need-same-length
 same-length c = search needs
@@ -25,13 +35,13 @@ same-length c = search needs
 returns : tie.Need-returns
 returns c = search needs
 
-waiting-requires-2 : tie.Need-waiting-requires-2
-waiting-requires-2 c κs =
+stretch-requires-2 : tie.Need-stretch-requires-2
+stretch-requires-2 c κs =
     let t = c .before .before in
     let s = t .before .before .before .before .before .before in
     let n = sym (t .before .before .before .before .if1 .taken) in
     let k = sym (t .if3 .taken) in
-    (s .pre .0, ((n, k, s .pre .1 .0 .0, s .pre .1 .0 .1), s .pre .1 .1))
+    (s .pre .0, ((n, s .pre .1 .0 .0, leads s k), s .pre .1 .1))
 
 same-length-2 : tie.Need-same-length-2
 same-length-2 c = search needs
@@ -39,14 +49,14 @@ same-length-2 c = search needs
 returns-2 : tie.Need-returns-2
 returns-2 c = search needs
 
-waiting-requires-3 : tie.Need-waiting-requires-3
-waiting-requires-3 c κs =
+stretch-requires-3 : tie.Need-stretch-requires-3
+stretch-requires-3 c κs =
     let t = c .before .before in
     let s = t .before .before .before .before .before .before in
-    let e = s .pre .1 .0 .2 .takes in
+    let e = s .pre .1 .0 .1 .takes in
     let n = sym (t .before .before .before .before .if1 .taken) in
     let k = third (s .args .e .tuning .order) (e .least) (e .most) (t .before .before .if2 .left) (t .if3 .left) in
-    (s .pre .0, ((n, k, s .pre .1 .0 .0, s .pre .1 .0 .1), s .pre .1 .1))
+    (s .pre .0, ((n, s .pre .1 .0 .0, leads s k), s .pre .1 .1))
 
 same-length-3 : tie.Need-same-length-3
 same-length-3 c = search needs
@@ -54,13 +64,13 @@ same-length-3 c = search needs
 returns-3 : tie.Need-returns-3
 returns-3 c = search needs
 
-waiting-requires-4 : tie.Need-waiting-requires-4
-waiting-requires-4 c κs =
+stretch-requires-4 : tie.Need-stretch-requires-4
+stretch-requires-4 c κs =
     let t = c .before .before in
     let s = t .before .before .before .before .before .before in
     let n = sym (t .before .before .if4 .taken) in
     let k = sym (t .if5 .taken) in
-    (s .pre .0, ((n, k, s .pre .1 .0 .0, s .pre .1 .0 .1), s .pre .1 .1))
+    (s .pre .0, ((n, s .pre .1 .0 .0, leads s k), s .pre .1 .1))
 
 same-length-4 : tie.Need-same-length-4
 same-length-4 c = search needs
@@ -68,13 +78,13 @@ same-length-4 c = search needs
 returns-4 : tie.Need-returns-4
 returns-4 c = search needs
 
-waiting-requires-5 : tie.Need-waiting-requires-5
-waiting-requires-5 c κs =
+stretch-requires-5 : tie.Need-stretch-requires-5
+stretch-requires-5 c κs =
     let t = c .before .before in
     let s = t .before .before .before .before .before .before .before .before in
     let n = sym (t .before .before .before .before .if4 .taken) in
     let k = sym (t .if6 .taken) in
-    (s .pre .0, ((n, k, s .pre .1 .0 .0, s .pre .1 .0 .1), s .pre .1 .1))
+    (s .pre .0, ((n, s .pre .1 .0 .0, leads s k), s .pre .1 .1))
 
 same-length-5 : tie.Need-same-length-5
 same-length-5 c = search needs
@@ -82,14 +92,14 @@ same-length-5 c = search needs
 returns-5 : tie.Need-returns-5
 returns-5 c = search needs
 
-waiting-requires-6 : tie.Need-waiting-requires-6
-waiting-requires-6 c κs =
+stretch-requires-6 : tie.Need-stretch-requires-6
+stretch-requires-6 c κs =
     let t = c .before .before in
     let s = t .before .before .before .before .before .before .before .before in
-    let e = s .pre .1 .0 .2 .takes in
+    let e = s .pre .1 .0 .1 .takes in
     let n = sym (t .before .before .before .before .if4 .taken) in
     let k = third (s .args .e .tuning .order) (e .least) (e .most) (t .before .before .if5 .left) (t .if6 .left) in
-    (s .pre .0, ((n, k, s .pre .1 .0 .0, s .pre .1 .0 .1), s .pre .1 .1))
+    (s .pre .0, ((n, s .pre .1 .0 .0, leads s k), s .pre .1 .1))
 
 same-length-6 : tie.Need-same-length-6
 same-length-6 c = search needs
@@ -97,14 +107,14 @@ same-length-6 c = search needs
 returns-6 : tie.Need-returns-6
 returns-6 c = search needs
 
-waiting-requires-7 : tie.Need-waiting-requires-7
-waiting-requires-7 c κs =
+stretch-requires-7 : tie.Need-stretch-requires-7
+stretch-requires-7 c κs =
     let t = c .before .before in
     let s = t .before .before .before .before .before .before in
     let f = s .pre .0 .0 .fit .filter .takes in
     let n = third (s .args .h .filter .tuning .order) (f .least) (f .most) (t .before .before .before .before .if1 .left) (t .before .before .if4 .left) in
     let k = sym (t .if7 .taken) in
-    (s .pre .0, ((n, k, s .pre .1 .0 .0, s .pre .1 .0 .1), s .pre .1 .1))
+    (s .pre .0, ((n, s .pre .1 .0 .0, leads s k), s .pre .1 .1))
 
 same-length-7 : tie.Need-same-length-7
 same-length-7 c = search needs
@@ -112,14 +122,14 @@ same-length-7 c = search needs
 returns-7 : tie.Need-returns-7
 returns-7 c = search needs
 
-waiting-requires-8 : tie.Need-waiting-requires-8
-waiting-requires-8 c κs =
+stretch-requires-8 : tie.Need-stretch-requires-8
+stretch-requires-8 c κs =
     let t = c .before .before in
     let s = t .before .before .before .before .before .before .before .before in
     let f = s .pre .0 .0 .fit .filter .takes in
     let n = third (s .args .h .filter .tuning .order) (f .least) (f .most) (t .before .before .before .before .before .before .if1 .left) (t .before .before .before .before .if4 .left) in
     let k = sym (t .if8 .taken) in
-    (s .pre .0, ((n, k, s .pre .1 .0 .0, s .pre .1 .0 .1), s .pre .1 .1))
+    (s .pre .0, ((n, s .pre .1 .0 .0, leads s k), s .pre .1 .1))
 
 same-length-8 : tie.Need-same-length-8
 same-length-8 c = search needs
@@ -127,15 +137,15 @@ same-length-8 c = search needs
 returns-8 : tie.Need-returns-8
 returns-8 c = search needs
 
-waiting-requires-9 : tie.Need-waiting-requires-9
-waiting-requires-9 c κs =
+stretch-requires-9 : tie.Need-stretch-requires-9
+stretch-requires-9 c κs =
     let t = c .before .before in
     let s = t .before .before .before .before .before .before .before .before in
     let f = s .pre .0 .0 .fit .filter .takes in
-    let e = s .pre .1 .0 .2 .takes in
+    let e = s .pre .1 .0 .1 .takes in
     let n = third (s .args .h .filter .tuning .order) (f .least) (f .most) (t .before .before .before .before .before .before .if1 .left) (t .before .before .before .before .if4 .left) in
     let k = third (s .args .e .tuning .order) (e .least) (e .most) (t .before .before .if7 .left) (t .if8 .left) in
-    (s .pre .0, ((n, k, s .pre .1 .0 .0, s .pre .1 .0 .1), s .pre .1 .1))
+    (s .pre .0, ((n, s .pre .1 .0 .0, leads s k), s .pre .1 .1))
 
 same-length-9 : tie.Need-same-length-9
 same-length-9 c = search needs
@@ -147,30 +157,30 @@ pub by-orders-spec : {M : Type 1} → statement M
 by-orders-spec =
     tie.close
     (tie.spec
-    waiting-requires
+    stretch-requires
     same-length
     returns
-    waiting-requires-2
+    stretch-requires-2
     same-length-2
     returns-2
-    waiting-requires-3
+    stretch-requires-3
     same-length-3
     returns-3
-    waiting-requires-4
+    stretch-requires-4
     same-length-4
     returns-4
-    waiting-requires-5
+    stretch-requires-5
     same-length-5
     returns-5
-    waiting-requires-6
+    stretch-requires-6
     same-length-6
     returns-6
-    waiting-requires-7
+    stretch-requires-7
     same-length-7
     returns-7
-    waiting-requires-8
+    stretch-requires-8
     same-length-8
     returns-8
-    waiting-requires-9
+    stretch-requires-9
     same-length-9
     returns-9)

@@ -35,9 +35,7 @@ abbrev μ-loop : tie.MeasureT-loop
 kept-requires : tie.Need-kept-requires Inv-loop μ-loop
 kept-requires c κs =
     let s = c .before in
-    let e = sym (anew-self (s .args .h .filter) (s .pre .1 .0 .0)) in
-    let f = tuned-fed (subst (λ (f : Filter). Tuned f) e (s .pre .0 .0 .fit .filter)) {x = pos 0} (omega arith) in
-    (f .least, f .most)
+    rw (s .pre .1 .0 .0) (s .pre .0 .0 .fit .filter .takes .most)
 
 of-state-requires : tie.Need-of-state-requires Inv-loop μ-loop
 of-state-requires c κs =
