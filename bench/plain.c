@@ -19,6 +19,18 @@ static inline int64_t clip(int64_t u)
     return u;
 }
 
+/* z / 65,536 and z / 131,072, cut toward zero, by the bits of the sign, which are 65,535 or 131,071 below 0, and a shift:
+   z is small. Or by a division, of which a compiler makes a conditional move. */
+static inline __attribute__((always_inline)) int64_t cut16(int by_sign, int64_t z)
+{
+    return by_sign ? (z + (int64_t)((uint64_t)z >> 48)) >> 16 : z / 65536;
+}
+
+static inline __attribute__((always_inline)) int64_t cut17(int by_sign, int64_t z)
+{
+    return by_sign ? (z + (int64_t)((uint64_t)z >> 47)) >> 17 : z / 131072;
+}
+
 /* f less (q + m) / 65,536, which is cut toward zero: of two numbers, each of one product, the one that the sum's sign
    tells. */
 static inline int64_t less(int64_t f, int64_t q, int64_t m)
@@ -44,6 +56,8 @@ stretch(Voice *v, const int32_t *restrict in, int32_t *restrict out, uint32_t n,
     int32_t *to = v->line + v->at;
     const int32_t *from = v->line + place(v->at, v->filter.length);
     const int32_t *ahead = v->line + (coming ? place(v->at, v->next.length) : 0);
+    /* Which divisions go by the sign: of the output, and of the loop. */
+    const int output = order == (BY_CLANG ? 2 : 1), loop = BY_CLANG ? order > 1 : order == 1;
     /* In order 1 the quotient's remainder goes by the sign of v1, so that it does not wait for the product. */
     const int64_t below = a1 < 0 ? 65535 : 0, above = a1 < 0 ? 0 : 65535;
     /* The products that the next samples take again. */
@@ -58,12 +72,12 @@ stretch(Voice *v, const int32_t *restrict in, int32_t *restrict out, uint32_t n,
         } else if (order == 1) {
             w = (65536 * (int64_t)from[i] + (v1 < 0 ? below : above) - m) >> 16;
             m = a1 * w;
-            y = clip(v1 + m / 65536);
+            y = clip(v1 + cut16(output, m));
         } else if (order == 2) {
             w = less(from[i], q, m);
             q = t;
             t = a2 * w;
-            y = clip(v2 + (t + m) / 65536);
+            y = clip(v2 + cut16(output, t + m));
             m = a1 * w;
             v2 = v1;
         } else {
@@ -80,13 +94,18 @@ stretch(Voice *v, const int32_t *restrict in, int32_t *restrict out, uint32_t n,
         }
         v1 = w;
         if (coming) {
-            int64_t more = coming > 2 ? b2 * e2 + b3 * e3 : b2 * e2;
-            int64_t e = coming > 1 ? less(ahead[i], more, b1 * e1) : ahead[i] - b1 * e1 / 65536;
+            int64_t e = ahead[i];
+            if (coming == 1)
+                e -= b1 * e1 / 65536;
+            else if (coming == 2)
+                e = less(e, b2 * e2, b1 * e1);
+            else
+                e -= cut16(1, b1 * e1 + (b2 * e2 + b3 * e3));
             e3 = e2;
             e2 = e1;
             e1 = e;
         }
-        s = loss * (y + last) / 131072;
+        s = cut17(loop, loss * (y + last));
         if (feeds)
             s += in[i];
         if (plucks) {

@@ -1,11 +1,11 @@
 -- The machine's division toward zero, and its remainder, which has the dividend's sign: the floor by the two.
 -- Assumes nothing.
-use mathlib.Core.Path.{_≡_}
+use mathlib.Core.Path.{_≡_, refl}
 use Prim.Native.Nat.{ℕ, suc, _+_, _*_, _/_, _%_, _<_}
 use native.Mathlib.Omega.{arith}
 use native.Mathlib.Nat.{div-add-mod', mod-lt, div-le-self, lt-of-le-of-lt}
 use lib.IntN.{ℤ, pos, negsuc, _-ℤ_, _*ℤ_}
-use lib.Signed.{_≤ℤ_, _<ℤ_, quotZ, remZ, mag-rem, mag-shr}
+use lib.Signed.{_≤ℤ_, _<ℤ_, quotZ, remZ, shrZ, mag-rem, mag-shr}
 use mir.Syntax.{Width}
 use mir.Val.{SFits}
 use Rattle.integer.specs.Parts.{up, dn}
@@ -25,11 +25,17 @@ quot-fits {w} {z} m f =
 pub rem-fits : {w : Width} {z : ℤ} (m : ℕ) → SFits w z → SFits w (remZ z (pos m))
 rem-fits {w} {z} m f = record { sfits = lt-of-le-of-lt (mag-rem z (pos m)) (f .sfits) }
 
-floor-fits : {w : Width} {u : ℤ} (m : ℕ) → SFits w u → SFits w (floor u m)
+pub floor-fits : {w : Width} {u : ℤ} (m : ℕ) → SFits w u → SFits w (floor u m)
 unfolding floor
 floor-fits {w} {u} m f = record { sfits = lt-of-le-of-lt (mag-shr u m) (f .sfits) }
 
 -- ---- the floor
+-- it is the machine's shift
+pub floor-shr : (u : ℤ) (m : ℕ) → shrZ u m ≡ floor u m
+unfolding floor
+floor-shr (pos a) m = refl
+floor-shr (negsuc a) m = refl
+
 -- the quotient toward zero and its remainder, in parts: u is m q and r, each part of which is below m
 quot-rem : (u : ℤ) (m : ℕ) → 0 < m
     → (m * up (quotZ u (pos m)) + up (remZ u (pos m)) ≡ up u) × (up (remZ u (pos m)) < m)

@@ -29,15 +29,11 @@ pub fn minus(x: Value, y: Value) -> Value
     Value { n: x.n - y.n }
 }
 
-// u / 65,536 downward, which is one shift where the divisor is a literal.
+// u / 65,536 downward.
 fn floor_q16(u: Value) -> Value
     ensures { λ r. ⌜ r .n ≡ floor (u .n) 65536 ⌝ }
 {
-    let q = u.n / 65_536;
-    if u.n % 65_536 < 0 {
-        return Value { n: q - 1 };
-    }
-    Value { n: q }
+    Value { n: u.n >> 16 }
 }
 
 fn is_below_zero(u: Value) -> bool
