@@ -2,7 +2,7 @@
 // What differs by order is here.
 ghost use mathlib.Core.Path.{_≡_};
 ghost use Prim.Native.Nat.{_*_, _≤_, _^_};
-ghost use lib.IntN.{natAbs, _+ℤ_};
+ghost use lib.IntN.{natAbs, _+ℤ_, _*ℤ_};
 ghost use Rattle.integer.specs.Rounding.{M};
 ghost use Rattle.integer.specs.Cut.{R};
 ghost use Rattle.refusal.specs.Orders.{orders};
@@ -13,6 +13,7 @@ use integer::Value;
 use integer::arithmetic::plus;
 use integer::arithmetic::times;
 use integer::cut_q16;
+use integer::signs::cut_product;
 use thiran::formula::Coefficients;
 
 // A1, A2 and A3 times a number; 0 past the order.
@@ -65,12 +66,13 @@ pub fn beside(order: u32, x: Multiples, m: Value) -> Value
     plus(Value { n: x.x2 }, m)
 }
 
-// R(A1·v1) in order 1.
-pub fn quotient(order: u32, x: Multiples) -> Value
+// R(A1·w) in order 1, where x has the products of w.
+pub fn quotient(order: u32, c: Coefficients, w: Value, x: Multiples) -> Value
+    requires { ⌜ (x .x1 ≡ c .a1 *ℤ w .n) × (natAbs (c .a1) ≤ 2 ^ 16) × (natAbs (w .n) ≤ 2 ^ 24) ⌝ }
     ensures { λ r. ⌜ r .n ≡ cutOf order x ⌝ }
 {
     if order == 1 {
-        return cut_q16(Value { n: x.x1 });
+        return cut_product(Value { n: c.a1 }, w, Value { n: x.x1 });
     }
     Value { n: 0 }
 }

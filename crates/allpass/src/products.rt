@@ -2,7 +2,7 @@
 // once, and between one w and the next a product, a difference, a choice by the sum's sign and a shift.
 ghost use mathlib.Core.Path.{_≡_};
 ghost use Prim.Native.Nat.{_≤_, _^_};
-ghost use lib.IntN.{pos, natAbs};
+ghost use lib.IntN.{pos, natAbs, _*ℤ_};
 ghost use Rattle.integer.specs.Rounding.{clip as Clip};
 ghost use Rattle.refusal.specs.Orders.{orders};
 ghost use Rattle.thiran.specs.Answers.{taps};
@@ -75,14 +75,15 @@ pub fn entered(order: u32, c: Coefficients, v: State, k: Products, f: Value) -> 
 }
 
 // Those of the next state, whose w has the products x.
-fn renewed(order: u32, k: Products, x: Multiples) -> Products
+fn renewed(order: u32, c: Coefficients, w: Value, k: Products, x: Multiples) -> Products
     requires { ⌜ (natAbs (x .x2) ≤ 2 ^ 42) × (natAbs (k .third) ≤ 2 ^ 42)
         × (natAbs (k .newest) ≤ 2 ^ 42) ⌝ }
+    requires { ⌜ (x .x1 ≡ c .a1 *ℤ w .n) × (natAbs (c .a1) ≤ 2 ^ 16) × (natAbs (w .n) ≤ 2 ^ 24) ⌝ }
     ensures { λ r. ⌜ r ≡ renewedOf order k x ⌝ }
 {
     let a = plus(Value { n: x.x2 }, Value { n: k.third });
     let t = beside(order, x, Value { n: k.newest });
-    let q = quotient(order, x);
+    let q = quotient(order, c, w, x);
     Products {
         cut: q.n,
         newest: x.x1,
@@ -93,16 +94,24 @@ fn renewed(order: u32, k: Products, x: Multiples) -> Products
     }
 }
 
-// Those of a state whose numbers have the products x, y and z.
-fn joined(order: u32, x: Multiples, y: Multiples, z: Multiples) -> Products
+// Those of a state whose numbers have the products x, y and z, and w is the newest.
+fn joined(
+    order: u32,
+    c: Coefficients,
+    w: Value,
+    x: Multiples,
+    y: Multiples,
+    z: Multiples,
+) -> Products
     requires { ⌜ (natAbs (x .x2) ≤ 2 ^ 42) × (natAbs (y .x1) ≤ 2 ^ 42) × (natAbs (y .x2) ≤ 2 ^ 42)
         × (natAbs (y .x3) ≤ 2 ^ 42) × (natAbs (z .x3) ≤ 2 ^ 42) ⌝ }
+    requires { ⌜ (x .x1 ≡ c .a1 *ℤ w .n) × (natAbs (c .a1) ≤ 2 ^ 16) × (natAbs (w .n) ≤ 2 ^ 24) ⌝ }
     ensures { λ r. ⌜ r ≡ productsIn order x y z ⌝ }
 {
     let a = plus(Value { n: y.x2 }, Value { n: z.x3 });
     let b = plus(Value { n: x.x2 }, Value { n: y.x3 });
     let t = beside(order, x, Value { n: y.x1 });
-    let q = quotient(order, x);
+    let q = quotient(order, c, w, x);
     Products {
         cut: q.n,
         newest: x.x1,
@@ -121,7 +130,7 @@ pub fn of_state(order: u32, c: Coefficients, v: State) -> Products
     let x = scaled(order, c, Value { n: v.v1 });
     let y = scaled(order, c, second(order, v));
     let z = scaled(order, c, third(order, v));
-    joined(order, x, y, z)
+    joined(order, c, Value { n: v.v1 }, x, y, z)
 }
 
 // One sample of the filter, where k has the products of v.
@@ -133,7 +142,7 @@ pub fn carry(order: u32, c: Coefficients, v: State, k: Products, f: Value) -> Ca
 {
     let w = entered(order, c, v, k, f);
     let x = scaled(order, c, w);
-    let n = renewed(order, k, x);
+    let n = renewed(order, c, w, k, x);
     let z = reversed(order, x, Value { n: k.turned }, Value { n: n.cut });
     let y = plus(oldest(order, v), z);
     let s = shifted(order, v, w);

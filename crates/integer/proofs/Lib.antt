@@ -2,5 +2,6 @@ pub mod View
 pub mod Ring
 pub mod Rounding
 pub mod Cut
+pub mod Sides
 mod Quotient
 mod Less

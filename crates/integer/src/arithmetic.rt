@@ -29,11 +29,26 @@ pub fn minus(x: Value, y: Value) -> Value
     Value { n: x.n - y.n }
 }
 
+// A number that is not below 0, times x.
+pub fn scale(g: u32, x: Value) -> Value
+    requires { ⌜ (g ≤ 65535) × (natAbs (x .n) ≤ 2 ^ 24) ⌝ }
+    ensures { λ r. ⌜ r .n ≡ pos g *ℤ x .n ⌝ }
+{
+    times(Value { n: g as i64 }, x)
+}
+
 // u / 65,536 downward.
-fn floor_q16(u: Value) -> Value
+pub fn floor_q16(u: Value) -> Value
     ensures { λ r. ⌜ r .n ≡ floor (u .n) 65536 ⌝ }
 {
     Value { n: u.n >> 16 }
+}
+
+// u / 131,072 downward.
+pub fn floor_q17(u: Value) -> Value
+    ensures { λ r. ⌜ r .n ≡ floor (u .n) 131072 ⌝ }
+{
+    Value { n: u.n >> 17 }
 }
 
 fn is_below_zero(u: Value) -> bool

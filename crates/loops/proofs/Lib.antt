@@ -1,3 +1,4 @@
+pub mod Ahead
 pub mod Carrying
 pub mod Fed
 pub mod Leading

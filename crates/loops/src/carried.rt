@@ -32,7 +32,8 @@ pub fn anew(order: u32, f: Filter, v: State) -> Filter
     }
 }
 
-// f with another state, which is put into it number by number: copied at once, its loads would wait for the stores.
+// f with another state, which is put into it number by number: copied at once it was slower, as loads likely wait
+// for the stores before them.
 fn renewed(mut f: Filter, v: State) -> Filter
     ensures { λ r. ⌜ r ≡ anewOf (f .tuning .order) f v ⌝ }
 {

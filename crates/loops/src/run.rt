@@ -31,14 +31,22 @@ use voice::Filter;
 use voice::Head;
 
 // s(n). What the loop brings back is a sample, so that it is clipped only where something comes in.
-fn newest(fed: bool, buffer: &[i32], i: usize, loss: u32, y: Value, last: Value) -> Value
+fn newest(
+    order: u32,
+    fed: bool,
+    buffer: &[i32],
+    i: usize,
+    loss: u32,
+    y: Value,
+    last: Value,
+) -> Value
     requires { ⌜ (i < length (now buffer)) × (natAbs (inputOf fed (now buffer) i) ≤ M) ⌝ }
     requires { ⌜ (loss ≤ 65535) × (natAbs (y .n) ≤ M) × (natAbs (last .n) ≤ M) ⌝ }
     ensures { λ r. ⌜ r .n ≡ Clip ((inputOf fed (now (buffer .entry)) i +ℤ pos 0)
         +ℤ Q (pos loss *ℤ (y .n +ℤ last .n))) ⌝ }
 {
     let x = input(fed, buffer, i);
-    let b = looped(loss, y, last);
+    let b = looped(order, loss, y, last);
     if fed {
         return mixed(x, Value { n: 0 }, b);
     }
@@ -99,7 +107,7 @@ pub fn stretch(
             };
             return Led { ran: r, next: u };
         }
-        let s = newest(fed, buffer, i, h.loss, y, last);
+        let s = newest(order, fed, buffer, i, h.loss, y, last);
         samples::write(line, at + i, s);
         samples::write(buffer, i, y);
         let n = led(coming, e.coefficients, u, g);

@@ -11,8 +11,11 @@ ghost use Rattle.voice.specs.Valid.{Tuned};
 ghost use Rattle.step.specs.Sample.{Circulates};
 use crate::filter::hear;
 use integer::Value;
+use integer::arithmetic::plus;
+use integer::arithmetic::scale;
 use integer::clip;
 use integer::cut_q17;
+use integer::signs::cut_as;
 use voice::Filter;
 
 // at is the place of the next sample.
@@ -22,15 +25,18 @@ pub struct Circulated {
     pub at: usize,
 }
 
-// What the loop brings back: G·(y(n) + y(n − 1)), cut toward zero.
-pub fn looped(loss: u32, y: Value, last: Value) -> Value
+// What the loop brings back: G·(y(n) + y(n − 1)), cut toward zero. In order 1 the sum's sign tells which way it is
+// cut: that is faster there, and slower where more numbers are carried.
+pub fn looped(order: u32, loss: u32, y: Value, last: Value) -> Value
     requires { ⌜ (loss ≤ 65535) × (natAbs (y .n) ≤ M) × (natAbs (last .n) ≤ M) ⌝ }
     ensures { λ r. ⌜ (r .n ≡ Q (pos loss *ℤ (y .n +ℤ last .n))) × (natAbs (r .n) ≤ M) ⌝ }
 {
-    let g = loss as i64;
-    cut_q17(Value {
-        n: g * (y.n + last.n),
-    })
+    let t = plus(y, last);
+    let z = scale(loss, t);
+    if order == 1 {
+        return cut_as(t, z);
+    }
+    cut_q17(z)
 }
 
 // s(n): the input, the noise sample and what the loop brings back, clipped.
@@ -62,7 +68,7 @@ pub fn circulate(
     let a = line::read(line, at, f.tuning.length as usize);
     let o = hear(f, a);
     let y = o.y;
-    let s = mixed(x, noise, looped(loss, y, last));
+    let s = mixed(x, noise, looped(f.tuning.order, loss, y, last));
     let next = line::write(line, at, s);
     let n = o.filter;
     Circulated {

@@ -23,7 +23,7 @@ use Rattle.allpass.specs.declared.multiples.Multiples.{Multiples}
 use Rattle.allpass.specs.declared.products.Products.{Products}
 use Rattle.allpass.proofs.Bounds.{inner-within, final-within}
 use Rattle.allpass.proofs.Renewed.{first-cut, turned-sum, renewed}
-use Rattle.allpass.proofs.Little.{Little, Fits, scaled-little, last-little, products-fit}
+use Rattle.allpass.proofs.Little.{Little, Fits, a1-small, scaled-little, last-little, products-fit}
 use Rattle.allpass.proofs.products.carry.Statement.{statement}
 use Rattle.allpass.proofs.products.carry.Tie as tie
 
@@ -72,10 +72,18 @@ scaled-requires c κs =
 
 renewed-requires : tie.Need-renewed-requires
 renewed-requires c κs =
-    let s = c .before .before in (
-      rw (c .scaled .ensures) (omega (arith, little (c .before) .two)),
-      rw (s .pre .1) (omega (arith, fit s .third)),
-      rw (s .pre .1) (omega (arith, fit s .newest)),
+    let s = c .before .before in
+    let f = s .pre .0 in (
+      (
+        rw (c .scaled .ensures) (omega (arith, little (c .before) .two)),
+        rw (s .pre .1) (omega (arith, fit s .third)),
+        rw (s .pre .1) (omega (arith, fit s .newest)),
+      ),
+      (
+        ap (λ (x : Multiples). x .x1) (c .scaled .ensures),
+        omega (arith, a1-small (N s) (s .args .c) (f .least), f .taps-small),
+        omega (arith, w-within (c .before)),
+      ),
     )
 
 -- ---- the sum that the output takes

@@ -11,7 +11,7 @@ use Rattle.integer.specs.Rounding.{M}
 use Rattle.integer.proofs.View.{read}
 use Rattle.allpass.specs.Products.{scaledOf, number, productsIn, productsOf}
 use Rattle.allpass.specs.declared.multiples.Multiples.{Multiples}
-use Rattle.allpass.proofs.Little.{Little, scaled-little, number-first, number-within}
+use Rattle.allpass.proofs.Little.{Little, a1-small, scaled-little, number-first, number-within}
 use Rattle.allpass.proofs.products.of_state.Statement.{statement}
 use Rattle.allpass.proofs.products.of_state.Tie as tie
 
@@ -80,20 +80,29 @@ module _ (c : tie.After-scaled3) where
 
 joined-requires : tie.Need-joined-requires
 joined-requires c κs =
-    let x = little (start c) 0 in
-    let y = little (start c) 1 in
-    let z = little (start c) 2 in (
-      rw (is-x c) (omega (arith, x .two)),
-      rw (is-y c) (omega (arith, y .one)),
-      rw (is-y c) (omega (arith, y .two)),
-      rw (is-y c) (omega (arith, y .three)),
-      rw (is-z c) (omega (arith, z .three)),
+    let d = c .before in
+    let s = start d in
+    let x = little s 0 in
+    let y = little s 1 in
+    let z = little s 2 in (
+      (
+        rw (is-x d) (omega (arith, x .two)),
+        rw (is-y d) (omega (arith, y .one)),
+        rw (is-y d) (omega (arith, y .two)),
+        rw (is-y d) (omega (arith, y .three)),
+        rw (is-z d) (omega (arith, z .three)),
+      ),
+      (
+        ap (λ (x : Multiples). x .x1) (x-made d .scaled .ensures),
+        omega (arith, a1-small (s .args .order) (s .args .c) (s .pre .least), s .pre .taps-small),
+        rw (first-read (x-made d .before)) (omega (arith, small s 0)),
+      ),
     )
 
 returns : tie.Need-returns
 unfolding productsOf
 returns c =
-    let d = c .before in
+    let d = c .before .before in
     let s = start d in
     let N = s .args .order in
     let x = of s (at s 0) in

@@ -27,7 +27,7 @@ module _ (c : tie.After-struct-told2) where
 plus-requires : tie.Need-plus-requires
 plus-requires c κs =
     let s = c .before .before in
-    (rw (x2-read c) (s .pre .0), rw (third-read c) (s .pre .1))
+    (rw (x2-read c) (s .pre .0 .0), rw (third-read c) (s .pre .0 .1))
 
 newest-read : (c : tie.After-struct-told3)
     → toZ w64 (ofZ w64 (k (c .before .before) .newest)) ≡ k (c .before .before) .newest
@@ -36,7 +36,7 @@ newest-read c = read w64 (k (c .before .before) .newest) (c .struct-told3 .given
 beside-requires : tie.Need-beside-requires
 beside-requires c κs =
     let s = c .before .before .before .before in
-    (s .pre .0, rw (newest-read c) (s .pre .2))
+    (s .pre .0 .0, rw (newest-read c) (s .pre .0 .2))
 
 quotient-requires : tie.Need-quotient-requires
 quotient-requires c κs = search needs

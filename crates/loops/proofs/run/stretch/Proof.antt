@@ -1,5 +1,5 @@
 -- `loops::run::stretch` meets its contract: the invariant is what the loop leaves, with the products it carries on.
--- What waits, if anything, is in proofs/Leading.antt. Assumes nothing.
+-- What waits, if anything, is in proofs/Leading.antt and proofs/Ahead.antt. Assumes nothing.
 use mathlib.Core.Path.{_≡_, refl, sym, ap, subst, _∙_}
 use Prim.Native.Nat.{ℕ, _+_, _-_, _%_, _≤_, _<_}
 use native.Mathlib.Omega.{arith}
@@ -28,7 +28,8 @@ use Rattle.loops.specs.Rendered.{Went}
 use Rattle.loops.proofs.Fed.{length-fed, as-long, input-fed, set-fed}
 use Rattle.loops.proofs.Passes.{Passed, started, reads, more}
 use Rattle.loops.proofs.Carrying.{kept-self}
-use Rattle.loops.proofs.Leading.{few, rests, begins, onOf, still, alone, goes, feeds, moves}
+use Rattle.loops.proofs.Ahead.{feeds, moves}
+use Rattle.loops.proofs.Leading.{few, rests, begins, onOf, still, alone, goes}
 use Rattle.loops.proofs.Taking.{from-on, taken-small, taken-circulates}
 use Rattle.loops.proofs.run.stretch.Statement.{statement}
 use Rattle.loops.proofs.run.stretch.Tie as tie
@@ -65,8 +66,9 @@ of-state-requires c κs =
 kept-requires-2 : tie.Need-kept-requires-2 Inv-loop μ-loop
 kept-requires-2 c κs =
     let s = c .before .before .before in
-    few (s .args .h .waiting) (s .args .coming) (length (s .args .buffer .now)) (s .args .h .advance) (s .args .e)
-    (s .pre .1 .0 .2) (s .pre .0 .0 .fit .waiting)
+    let a = s .args in
+    few (a .h .waiting) (a .coming) (length (a .buffer .now)) (a .h .advance) (a .e) (s .pre .1 .0 .2)
+    (s .pre .0 .0 .fit .waiting)
 
 loop-holds : tie.Need-loop-holds Inv-loop μ-loop
 loop-holds c =
@@ -75,9 +77,12 @@ loop-holds c =
     let s = q .before .before in
     let h = s .args .h in
     let fit = s .pre .0 .0 .fit in
-    let r = rests (h .waiting) (s .args .coming) (length (s .args .buffer .now)) (h .advance) (s .args .e) (j .kept2 .result)
-    (s .pre .1 .0 .2) (fit .waiting) (j .kept2 .ensures) in (
-      started (begins (h .waiting) h (q .kept .result) (j .kept2 .result) refl (is-state q) r (fit .waiting) (fit .at)) (s .pre .0 .1) (s .pre .0 .0),
+    let u = j .kept2 .result in
+    let n = length (s .args .buffer .now) in
+    let r = rests (h .waiting) (s .args .coming) n (h .advance) (s .args .e) u (s .pre .1 .0 .2) (fit .waiting)
+    (j .kept2 .ensures) in (
+      started (begins (h .waiting) h (q .kept .result) u refl (is-state q) r (fit .waiting) (fit .at))
+          (s .pre .0 .1) (s .pre .0 .0),
       c .before .before .of-state .ensures,
     )
 
@@ -122,10 +127,12 @@ module _ (c : tie.In-loop Inv-loop μ-loop) where
       (fedOf (first .args .fed) (pass .loop .i) (pass .loop .buffer)) head (pass .loop .line) (pass .loop .i)
   so-far =
       let l = pass .loop in
+      let a = first .args in
+      let b = a .buffer .now in
       subst
-      (λ (k : Head). Passed (fedOf (first .args .fed) 0 (first .args .buffer .now)) (stateOf h (first .args .line .now))
-      (fedOf (first .args .fed) (l .i) (l .buffer)) k (l .line) (l .i))
-      (still (h .waiting) h (led pass) (first .args .coming) (length (first .args .buffer .now)) (first .args .e) (first .pre .1 .0 .2) more-left)
+      (λ (k : Head). Passed (fedOf (a .fed) 0 b) (stateOf h (a .line .now)) (fedOf (a .fed) (l .i) (l .buffer)) k
+      (l .line) (l .i))
+      (still (h .waiting) h (led pass) (a .coming) (length b) (a .e) (first .pre .1 .0 .2) more-left)
       (l .inv .0)
 
   valid : Valid (ranOf h (led pass .ran)) (pass .loop .line)
@@ -287,8 +294,8 @@ led-requires c κs =
     let r = within t in
     let s = first r .pre .1 in
     let a = first r .args in
-    feeds (h r .waiting) (h r) (led (pass r)) (a .coming) (length (a .buffer .now)) (a .e) (s .0 .2) (so-far r .1) (long t) (s .1 .1) (s .1 .3) (more-left r)
-    (t .read2 .ensures)
+    feeds (h r .waiting) (h r) (led (pass r)) (a .coming) (length (a .buffer .now)) (a .e) (s .0 .2)
+    (so-far r .1) (long t) (s .1 .1) (s .1 .3) (more-left r) (t .read2 .ensures)
 
 -- and its eliminator has moved
 abbrev moved : tie.After-k Inv-loop μ-loop → tie.After-buffer Inv-loop μ-loop
@@ -318,8 +325,9 @@ loop-again c =
     let made = taken-circulates (l .line) (at r) (long g) (inside r) (valid r .fit .filter) (place r)
     (for-filter g .read .ensures) (small g) (next-is k) (y-small k) (out-is k) (s .h .loss) (l .last .n) x
     (w .before .before .newest .ensures) (here r) (on r) (w .write .ensures) in
-    let m = moves (s .h .waiting) (s .h) (led (pass r)) (s .coming) (length (s .buffer .now)) (s .e) u (p .0 .2) (so-far r .1) (long g) (p .1 .1) (p .1 .3) (more-left r)
-    (g .read2 .ensures) (c .before .before .led .ensures) in (
+    let m = moves (s .h .waiting) (s .h) (led (pass r)) (s .coming) (length (s .buffer .now)) (s .e) u (p .0 .2)
+    (so-far r .1) (long g) (p .1 .1) (p .1 .3) (more-left r) (g .read2 .ensures)
+    (c .before .before .led .ensures) in (
       more (so-far r) (left r) (input-fed (s .fed) (l .buffer) (l .i))
           (goes (s .h .waiting) (s .h) (led (pass r)) u (p .0 .1) made m (so-far r .1))
           (ap (fedOf (s .fed) (l .i + 1)) (b .before .write2 .ensures)

@@ -1,19 +1,16 @@
 -- `step::feedback::looped` meets its contract: 65,535 times 2M is at most 131,072 times M.
 -- Assumes nothing.
-use mathlib.Core.Path.{_≡_}
+use mathlib.Core.Path.{_≡_, ap, _∙_}
 use Prim.Native.Nat.{ℕ, _*_, _≤_, _^_}
 use native.Mathlib.Omega.{arith}
 use native.Mathlib.Nat.{mul-le-mul}
 use borrow.Author.Needs.{needs}
 use lib.IntN.{ℤ, pos, natAbs, _+ℤ_, _*ℤ_}
-use mir.Syntax.{w64}
-use mir.Val.{toZ}
-use mir.ValLaws.{toZ-pos}
 use Rattle.integer.specs.Rounding.{M}
-use Rattle.integer.proofs.View.{abs-fits}
+use Rattle.integer.specs.Cut.{Q}
 use Rattle.integer.proofs.Ring.{abs-*, abs-+}
 use Rattle.integer.proofs.Cut.{Q-abs}
-use Rattle.step.proofs.Machine.{back, kept, terms}
+use Rattle.integer.proofs.Sides.{scale-above, scale-under}
 use Rattle.step.proofs.feedback.looped.Statement.{statement}
 use Rattle.step.proofs.feedback.looped.Tie as tie
 
@@ -21,50 +18,57 @@ module _ (s : tie.Start) where
   abbrev G : ℕ
   G = s .args .loss
 
-  abbrev y : ℤ
-  y = s .args .y .n
-
-  abbrev l : ℤ
-  l = s .args .last .n
+  abbrev t : ℤ
+  t = s .args .y .n +ℤ s .args .last .n
 
   abbrev u : ℤ
-  u = pos G *ℤ (y +ℤ l)
+  u = pos G *ℤ t
 
-  sum-small : natAbs (y +ℤ l) ≤ 2 * M
-  sum-small = omega (arith, abs-+ y l)
+  sum-small : natAbs t ≤ 2 * M
+  sum-small = omega (arith, abs-+ (s .args .y .n) (s .args .last .n), s .pre .1, s .pre .2)
 
   u-small : natAbs u ≤ 65535 * (2 * M)
-  u-small = omega (arith, abs-* (pos G) (y +ℤ l), mul-le-mul (s .pre .0) sum-small)
+  u-small = omega (arith, abs-* (pos G) t, mul-le-mul (s .pre .0) sum-small)
 
-  sum : back y +ℤ back l ≡ y +ℤ l
-  sum = terms y l (omega arith) (omega arith)
+  kept : natAbs (Q u) ≤ M
+  kept = omega (arith, Q-abs u, u-small)
 
-  product : toZ w64 G *ℤ back (back y +ℤ back l) ≡ u
-  product = rw (toZ-pos w64 G (omega arith), sum, kept (y +ℤ l) (omega (arith, sum-small)))
+plus-requires : tie.Need-plus-requires
+plus-requires c κs = (omega (arith, c .pre .1), omega (arith, c .pre .2))
 
-  whole : back (toZ w64 G *ℤ back (back y +ℤ back l)) ≡ u
-  whole = rw (product, kept u (omega (arith, u-small)))
+scale-requires : tie.Need-scale-requires
+scale-requires c κs =
+    let s = c .before in
+    (s .pre .0, rw (c .plus .ensures) (omega (arith, sum-small s)))
 
-abbrev start : tie.After-struct-told2 → tie.Start
-start c = c .before .before .before .before
+is-product : (c : tie.After-scale) → c .scale .result .n ≡ u (c .before .before)
+is-product c =
+    let p = c .before in
+    c .scale .ensures ∙ ap (λ (t : ℤ). pos (G (p .before)) *ℤ t) (p .plus .ensures)
 
-cast-g : tie.Need-cast-g
-cast-g c = search needs
-
-add-t5 : tie.Need-add-t5
-add-t5 c = let s = start c in rw (sum s) (abs-fits w64 (y s +ℤ l s) (omega (arith, sum-small s)))
-
-mul-t6 : tie.Need-mul-t6
-mul-t6 c = let s = start c in rw (product s) (abs-fits w64 (u s) (omega (arith, u-small s)))
-
-cut-q17-requires : tie.Need-cut-q17-requires
-cut-q17-requires c κs = tt
+cut-as-requires : tie.Need-cut-as-requires
+cut-as-requires c κs =
+    let z = c .before in
+    let p = z .before in
+    let s = p .before in
+    rw (p .plus .ensures, is-product z)
+    (omega (arith, sum-small s), omega (arith, u-small s), scale-above (G s) (t s), scale-under (G s) (t s))
 
 returns : tie.Need-returns
 returns c =
-    let s = start (c .before) in
-    let e = rw (whole s) at (c .cut-q17 .ensures) in
-    (e, rw e (omega (arith, Q-abs (u s), u-small s)))
+    let z = c .before .before in
+    let e = c .cut-as .ensures ∙ ap Q (is-product z) in
+    (e, rw e (kept (z .before .before)))
+
+cut-q17-requires : tie.Need-cut-q17-requires
+cut-q17-requires c κs = search needs
+
+returns-2 : tie.Need-returns-2
+returns-2 c =
+    let z = c .before .before in
+    let e = c .cut-q17 .ensures ∙ ap Q (is-product z) in
+    (e, rw e (kept (z .before .before)))
 
 pub looped-spec : {M : Type 1} → statement M
-looped-spec = tie.close (tie.spec cast-g add-t5 mul-t6 cut-q17-requires returns)
+looped-spec =
+    tie.close (tie.spec plus-requires scale-requires cut-as-requires returns cut-q17-requires returns-2)
