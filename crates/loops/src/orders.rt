@@ -12,7 +12,7 @@ ghost use Rattle.loops.specs.Carried.{afterOf, Leads};
 ghost use Rattle.loops.specs.Fed.{fedOf};
 ghost use Rattle.loops.specs.Rendered.{Went};
 use crate::Led;
-use crate::run::stretch;
+use crate::run::run;
 use voice::Filter;
 use voice::Head;
 
@@ -26,12 +26,12 @@ pub fn by_order(line: &mut [i32; 2112], fed: bool, h: Head, from: usize, buffer:
         (now (line .exit)) (r .ran .done) ⌝ }
 {
     if h.filter.tuning.order == 1 {
-        return stretch(line, 1, 0, fed, h, h.filter, from, from, buffer);
+        return run(line, 1, 0, fed, h, h.filter, from, from, buffer);
     }
     if h.filter.tuning.order == 2 {
-        return stretch(line, 2, 0, fed, h, h.filter, from, from, buffer);
+        return run(line, 2, 0, fed, h, h.filter, from, from, buffer);
     }
-    stretch(line, 3, 0, fed, h, h.filter, from, from, buffer)
+    run(line, 3, 0, fed, h, h.filter, from, from, buffer)
 }
 
 // The same while a change waits, by the loop of both orders, that of the filter and that of the change.
@@ -56,27 +56,27 @@ pub fn by_orders(
 {
     if h.filter.tuning.order == 1 {
         if e.tuning.order == 1 {
-            return stretch(line, 1, 1, fed, h, e, from, far, buffer);
+            return run(line, 1, 1, fed, h, e, from, far, buffer);
         }
         if e.tuning.order == 2 {
-            return stretch(line, 1, 2, fed, h, e, from, far, buffer);
+            return run(line, 1, 2, fed, h, e, from, far, buffer);
         }
-        return stretch(line, 1, 3, fed, h, e, from, far, buffer);
+        return run(line, 1, 3, fed, h, e, from, far, buffer);
     }
     if h.filter.tuning.order == 2 {
         if e.tuning.order == 1 {
-            return stretch(line, 2, 1, fed, h, e, from, far, buffer);
+            return run(line, 2, 1, fed, h, e, from, far, buffer);
         }
         if e.tuning.order == 2 {
-            return stretch(line, 2, 2, fed, h, e, from, far, buffer);
+            return run(line, 2, 2, fed, h, e, from, far, buffer);
         }
-        return stretch(line, 2, 3, fed, h, e, from, far, buffer);
+        return run(line, 2, 3, fed, h, e, from, far, buffer);
     }
     if e.tuning.order == 1 {
-        return stretch(line, 3, 1, fed, h, e, from, far, buffer);
+        return run(line, 3, 1, fed, h, e, from, far, buffer);
     }
     if e.tuning.order == 2 {
-        return stretch(line, 3, 2, fed, h, e, from, far, buffer);
+        return run(line, 3, 2, fed, h, e, from, far, buffer);
     }
-    stretch(line, 3, 3, fed, h, e, from, far, buffer)
+    run(line, 3, 3, fed, h, e, from, far, buffer)
 }

@@ -66,7 +66,7 @@ fn led(coming: u32, c: Coefficients, u: State, g: Value) -> State
 
 // Renders samples of the buffer. from and far are the places that the filter and an eliminator e read at first;
 // coming is the order of e, or 0 where nothing waits. An announced change does not take effect before the end.
-pub fn stretch(
+pub fn run(
     line: &mut [i32; 2112],
     order: u32,
     coming: u32,

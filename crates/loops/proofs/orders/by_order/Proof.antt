@@ -17,8 +17,8 @@ none s =
     subst (λ (w : Waiting). Leads w 0 (h .filter) (length (s .args .buffer .now)) (h .advance))
     (sym (s .pre .1 .0 .0)) refl
 
-stretch-requires : tie.Need-stretch-requires
-stretch-requires c κs =
+run-requires : tie.Need-run-requires
+run-requires c κs =
     let t = c .before .before in
     let s = t .before .before in
     let p = s .pre .1 .1 in
@@ -30,8 +30,8 @@ same-length c = search needs
 returns : tie.Need-returns
 returns c = search needs
 
-stretch-requires-2 : tie.Need-stretch-requires-2
-stretch-requires-2 c κs =
+run-requires-2 : tie.Need-run-requires-2
+run-requires-2 c κs =
     let t = c .before .before in
     let s = t .before .before .before .before in
     let p = s .pre .1 .1 in
@@ -43,8 +43,8 @@ same-length-2 c = search needs
 returns-2 : tie.Need-returns-2
 returns-2 c = search needs
 
-stretch-requires-3 : tie.Need-stretch-requires-3
-stretch-requires-3 c κs =
+run-requires-3 : tie.Need-run-requires-3
+run-requires-3 c κs =
     let t = c .before .before in
     let s = t .before .before .before .before in
     let p = s .pre .1 .1 in
@@ -63,12 +63,12 @@ pub by-order-spec : {M : Type 1} → statement M
 by-order-spec =
     tie.close
     (tie.spec
-    stretch-requires
+    run-requires
     same-length
     returns
-    stretch-requires-2
+    run-requires-2
     same-length-2
     returns-2
-    stretch-requires-3
+    run-requires-3
     same-length-3
     returns-3)

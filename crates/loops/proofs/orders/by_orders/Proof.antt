@@ -21,8 +21,8 @@ leads s q =
     subst (λ (K : ℕ). Leads (a .h .waiting) K (a .e) (length (a .buffer .now)) (a .h .advance)) (sym q)
     (s .pre .1 .0 .2)
 
-stretch-requires : tie.Need-stretch-requires
-stretch-requires c κs =
+run-requires : tie.Need-run-requires
+run-requires c κs =
     let t = c .before .before in
     let s = t .before .before .before .before in
     let n = sym (t .before .before .if1 .taken) in
@@ -35,8 +35,8 @@ same-length c = search needs
 returns : tie.Need-returns
 returns c = search needs
 
-stretch-requires-2 : tie.Need-stretch-requires-2
-stretch-requires-2 c κs =
+run-requires-2 : tie.Need-run-requires-2
+run-requires-2 c κs =
     let t = c .before .before in
     let s = t .before .before .before .before .before .before in
     let n = sym (t .before .before .before .before .if1 .taken) in
@@ -49,8 +49,8 @@ same-length-2 c = search needs
 returns-2 : tie.Need-returns-2
 returns-2 c = search needs
 
-stretch-requires-3 : tie.Need-stretch-requires-3
-stretch-requires-3 c κs =
+run-requires-3 : tie.Need-run-requires-3
+run-requires-3 c κs =
     let t = c .before .before in
     let s = t .before .before .before .before .before .before in
     let e = s .pre .1 .0 .1 .takes in
@@ -64,8 +64,8 @@ same-length-3 c = search needs
 returns-3 : tie.Need-returns-3
 returns-3 c = search needs
 
-stretch-requires-4 : tie.Need-stretch-requires-4
-stretch-requires-4 c κs =
+run-requires-4 : tie.Need-run-requires-4
+run-requires-4 c κs =
     let t = c .before .before in
     let s = t .before .before .before .before .before .before in
     let n = sym (t .before .before .if4 .taken) in
@@ -78,8 +78,8 @@ same-length-4 c = search needs
 returns-4 : tie.Need-returns-4
 returns-4 c = search needs
 
-stretch-requires-5 : tie.Need-stretch-requires-5
-stretch-requires-5 c κs =
+run-requires-5 : tie.Need-run-requires-5
+run-requires-5 c κs =
     let t = c .before .before in
     let s = t .before .before .before .before .before .before .before .before in
     let n = sym (t .before .before .before .before .if4 .taken) in
@@ -92,8 +92,8 @@ same-length-5 c = search needs
 returns-5 : tie.Need-returns-5
 returns-5 c = search needs
 
-stretch-requires-6 : tie.Need-stretch-requires-6
-stretch-requires-6 c κs =
+run-requires-6 : tie.Need-run-requires-6
+run-requires-6 c κs =
     let t = c .before .before in
     let s = t .before .before .before .before .before .before .before .before in
     let e = s .pre .1 .0 .1 .takes in
@@ -107,8 +107,8 @@ same-length-6 c = search needs
 returns-6 : tie.Need-returns-6
 returns-6 c = search needs
 
-stretch-requires-7 : tie.Need-stretch-requires-7
-stretch-requires-7 c κs =
+run-requires-7 : tie.Need-run-requires-7
+run-requires-7 c κs =
     let t = c .before .before in
     let s = t .before .before .before .before .before .before in
     let f = s .pre .0 .0 .fit .filter .takes in
@@ -122,8 +122,8 @@ same-length-7 c = search needs
 returns-7 : tie.Need-returns-7
 returns-7 c = search needs
 
-stretch-requires-8 : tie.Need-stretch-requires-8
-stretch-requires-8 c κs =
+run-requires-8 : tie.Need-run-requires-8
+run-requires-8 c κs =
     let t = c .before .before in
     let s = t .before .before .before .before .before .before .before .before in
     let f = s .pre .0 .0 .fit .filter .takes in
@@ -137,8 +137,8 @@ same-length-8 c = search needs
 returns-8 : tie.Need-returns-8
 returns-8 c = search needs
 
-stretch-requires-9 : tie.Need-stretch-requires-9
-stretch-requires-9 c κs =
+run-requires-9 : tie.Need-run-requires-9
+run-requires-9 c κs =
     let t = c .before .before in
     let s = t .before .before .before .before .before .before .before .before in
     let f = s .pre .0 .0 .fit .filter .takes in
@@ -157,30 +157,30 @@ pub by-orders-spec : {M : Type 1} → statement M
 by-orders-spec =
     tie.close
     (tie.spec
-    stretch-requires
+    run-requires
     same-length
     returns
-    stretch-requires-2
+    run-requires-2
     same-length-2
     returns-2
-    stretch-requires-3
+    run-requires-3
     same-length-3
     returns-3
-    stretch-requires-4
+    run-requires-4
     same-length-4
     returns-4
-    stretch-requires-5
+    run-requires-5
     same-length-5
     returns-5
-    stretch-requires-6
+    run-requires-6
     same-length-6
     returns-6
-    stretch-requires-7
+    run-requires-7
     same-length-7
     returns-7
-    stretch-requires-8
+    run-requires-8
     same-length-8
     returns-8
-    stretch-requires-9
+    run-requires-9
     same-length-9
     returns-9)

@@ -1,4 +1,4 @@
--- `loops::run::stretch` meets its contract: the invariant is what the loop leaves, with the products it carries on.
+-- `loops::run::run` meets its contract: the invariant is what the loop leaves, with the products it carries on.
 -- What waits, if anything, is in proofs/Leading.antt and proofs/Ahead.antt. Assumes nothing.
 use mathlib.Core.Path.{_≡_, refl, sym, ap, subst, _∙_}
 use Prim.Native.Nat.{ℕ, _+_, _-_, _%_, _≤_, _<_}
@@ -31,8 +31,8 @@ use Rattle.loops.proofs.Carrying.{kept-self}
 use Rattle.loops.proofs.Ahead.{feeds, moves}
 use Rattle.loops.proofs.Leading.{few, rests, begins, onOf, still, alone, goes}
 use Rattle.loops.proofs.Taking.{from-on, taken-small, taken-circulates}
-use Rattle.loops.proofs.run.stretch.Statement.{statement}
-use Rattle.loops.proofs.run.stretch.Tie as tie
+use Rattle.loops.proofs.run.run.Statement.{statement}
+use Rattle.loops.proofs.run.run.Tie as tie
 
 abbrev Inv-loop : tie.InvT-loop
 Inv-loop line₀ order coming fed h e from far buffer₀ c at v₀ k₀ u₀ last₀ i₀ line buffer v k u last i =
@@ -342,8 +342,8 @@ same-length-2 c = same (c .before)
 returns-2 : tie.Need-returns-2 Inv-loop μ-loop
 returns-2 c = c .before .loop .inv .0
 
-pub stretch-spec : {M : Type 1} → statement M
-stretch-spec =
+pub run-spec : {M : Type 1} → statement M
+run-spec =
     tie.close
     (tie.spec
     Inv-loop
