@@ -36,7 +36,7 @@ pub struct Ran {
     pub done: usize,
 }
 
-// The same with the state of an eliminator, 0 where none runs.
+// The same with the state of an eliminator, which is not read where none runs.
 pub struct Led {
     pub ran: Ran,
     pub next: State,

@@ -26,7 +26,7 @@ pub struct Circulated {
 }
 
 // What the loop brings back: G·(y(n) + y(n − 1)), cut toward zero. In order 1 the sum's sign tells which way it is
-// cut: that is faster there, and slower where more numbers are carried.
+// cut: there alone that was faster in most rows of bench/run.
 pub fn looped(order: u32, loss: u32, y: Value, last: Value) -> Value
     requires { ⌜ (loss ≤ 65535) × (natAbs (y .n) ≤ M) × (natAbs (last .n) ≤ M) ⌝ }
     ensures { λ r. ⌜ (r .n ≡ Q (pos loss *ℤ (y .n +ℤ last .n))) × (natAbs (r .n) ≤ M) ⌝ }
