@@ -1,49 +1,109 @@
-/* The samples of the voice in plain C, in the fastest form found: what is between one w and the next is one product, one
-   subtraction and one shift, all else is carried or summed ahead; the state in locals, a loop for each order and for each
-   part that can be absent, and stretches of samples in which neither the ring ends nor a pluck nor a waiting change, so
-   that the loops have no test but their count and the clips. */
+/* The samples of the voice in plain C, in the fastest forms found: all that a sample takes again is carried from the one
+   before it, the state is in locals, there is a loop for each order and for each part that can be absent, and stretches
+   of samples in which neither the ring ends nor a pluck nor a waiting change, so that the loops have no test but their
+   count, the clips and, in some forms, a sign. */
 #include "plain.h"
 
-/* Where two forms were found, the faster one by each compiler. */
+#define INLINE static inline __attribute__((always_inline))
+
+/* A sum is cut toward zero in one of these forms: a division, of which a compiler makes a conditional move; the bits of
+   its sign, which are 65,535 or 131,071 below 0, and a shift; the bits of the sign of a number on the same side of 0; a
+   branch by its sign, or by the signs of its factors; a choice or a branch between two differences, of which one alone
+   waits for the newest product. */
+typedef enum { DIVISION, BITS, BITS_BEFORE, BRANCH, BRANCH_BEFORE, CHOICE, SPLIT } Form;
+
+/* The forms of w, of the output, of the loop and of an eliminator's w. */
+typedef struct {
+    Form w, y, s, e;
+} Forms;
+
+/* The fastest found by each compiler, with nothing waiting and with a change that waits. */
+INLINE Forms forms_of(uint32_t order, int waits)
+{
 #ifdef __clang__
-enum { BY_CLANG = 1 };
+    static const Forms alone[] = { { BRANCH, BRANCH, DIVISION, 0 }, { SPLIT, BRANCH, BITS_BEFORE, 0 },
+                                   { BRANCH, BRANCH, BITS_BEFORE, 0 } };
+    static const Forms beside[] = { { BRANCH_BEFORE, BRANCH, DIVISION, BITS }, { BRANCH, BRANCH, BITS_BEFORE, CHOICE },
+                                    { BRANCH, BRANCH, DIVISION, BRANCH } };
 #else
-enum { BY_CLANG = 0 };
+    static const Forms alone[] = { { BRANCH_BEFORE, BRANCH, BRANCH, 0 }, { SPLIT, BITS, DIVISION, 0 },
+                                   { CHOICE, BRANCH, BRANCH, 0 } };
+    static const Forms beside[] = { { BRANCH_BEFORE, BRANCH, BRANCH, CHOICE }, { SPLIT, DIVISION, BRANCH, CHOICE },
+                                    { DIVISION, DIVISION, DIVISION, BITS } };
 #endif
+    return (waits ? beside : alone)[order - 1];
+}
 
 /* One test that seldom holds, which was faster than two conditional moves. */
-static inline int64_t clip(int64_t u)
+INLINE int64_t clip(int64_t u)
 {
     if (__builtin_expect((uint64_t)(u + MOST) > 2u * MOST, 0))
         return u > 0 ? MOST : -MOST;
     return u;
 }
 
-/* z / 65,536 and z / 131,072, cut toward zero, by the bits of the sign, which are 65,535 or 131,071 below 0, and a shift:
-   z is small. Or by a division, of which a compiler makes a conditional move. */
-static inline __attribute__((always_inline)) int64_t cut16(int by_sign, int64_t z)
+/* f less (q + m) / 65,536, cut. */
+INLINE int64_t less(Form form, int64_t f, int64_t q, int64_t m)
 {
-    return by_sign ? (z + (int64_t)((uint64_t)z >> 48)) >> 16 : z / 65536;
+    int64_t u = q + m, p = 65536 * f - q;
+    if (form == CHOICE)
+        return (u < 0 ? p - m : p + 65535 - m) >> 16;
+    if (form == SPLIT) {
+        if (u < 0)
+            return (p - m) >> 16;
+        return -((m - p) >> 16);
+    }
+    if (form == BRANCH) {
+        if (u < 0)
+            return f + (-u >> 16);
+        return f - (u >> 16);
+    }
+    return f - (form == BITS ? (u + (int64_t)((uint64_t)u >> 48)) >> 16 : u / 65536);
 }
 
-static inline __attribute__((always_inline)) int64_t cut17(int by_sign, int64_t z)
+/* v and u / 65,536, cut. */
+INLINE int64_t more(Form form, int64_t v, int64_t u)
 {
-    return by_sign ? (z + (int64_t)((uint64_t)z >> 47)) >> 17 : z / 131072;
+    if (form == BRANCH) {
+        if (u < 0)
+            return v - (-u >> 16);
+        return v + (u >> 16);
+    }
+    return v + (form == BITS ? (u + (int64_t)((uint64_t)u >> 48)) >> 16 : u / 65536);
 }
 
-/* f less (q + m) / 65,536, which is cut toward zero: of two numbers, each of one product, the one that the sum's sign
-   tells. */
-static inline int64_t less(int64_t f, int64_t q, int64_t m)
+/* a * w / 65,536, cut by the signs of the two factors, and v more that. */
+INLINE int64_t quotient(int64_t a, int64_t w, int64_t v, int64_t *sum)
 {
-    int64_t p = 65536 * f - q, cut = p - m, up = p + 65535 - m;
-    return (q + m < 0 ? cut : up) >> 16;
+    if ((w ^ a) < 0) {
+        int64_t t = (-a * w) >> 16;
+        *sum = v - t;
+        return -t;
+    }
+    int64_t t = (a * w) >> 16;
+    *sum = v + t;
+    return t;
+}
+
+/* g * t / 131,072, cut: what the loop brings back. */
+INLINE int64_t back(Form form, int64_t g, int64_t t)
+{
+    if (form == BRANCH) {
+        if (t < 0)
+            return -((g * -t) >> 17);
+        return (g * t) >> 17;
+    }
+    int64_t z = g * t;
+    if (form == DIVISION)
+        return z / 131072;
+    return (z + (int64_t)((uint64_t)(form == BITS ? z : t) >> 47)) >> 17;
 }
 
 static inline uint32_t least(uint32_t a, uint32_t b) { return a < b ? a : b; }
 
 /* One stretch. order, coming, which is the order that waits or 0, plucks and feeds, which is whether there is an input,
    are constants where it is called, and each call becomes its own loop. */
-static inline __attribute__((always_inline)) void
+INLINE void
 stretch(Voice *v, const int32_t *restrict in, int32_t *restrict out, uint32_t n, uint32_t order, uint32_t coming,
         int plucks, int feeds)
 {
@@ -56,36 +116,34 @@ stretch(Voice *v, const int32_t *restrict in, int32_t *restrict out, uint32_t n,
     int32_t *to = v->line + v->at;
     const int32_t *from = v->line + place(v->at, v->filter.length);
     const int32_t *ahead = v->line + (coming ? place(v->at, v->next.length) : 0);
-    /* Which divisions go by the sign: of the output, and of the loop. */
-    const int output = order == (BY_CLANG ? 2 : 1), loop = BY_CLANG ? order > 1 : order == 1;
-    /* In order 1 the quotient's remainder goes by the sign of v1, so that it does not wait for the product. */
-    const int64_t below = a1 < 0 ? 65535 : 0, above = a1 < 0 ? 0 : 65535;
-    /* The products that the next samples take again. */
-    int64_t m = order == 1 && BY_CLANG ? a1 * v1 / 65536 : a1 * v1, m2 = a1 * v2, t = a2 * v1, u = a3 * v1, u2 = a3 * v2;
+    const Forms form = forms_of(order, coming != 0);
+    const Form e_form = coming ? forms_of(coming, 1).e : DIVISION;
+    /* The products that the next samples take again; in order 1 the quotient where that is made before w. */
+    const int made = order == 1 && form.w == BRANCH_BEFORE;
+    int64_t m = made ? a1 * v1 / 65536 : a1 * v1, m2 = a1 * v2, t = a2 * v1, u = a3 * v1, u2 = a3 * v2;
     int64_t q = order == 2 ? a2 * v2 : a2 * v2 + a3 * v3;
     for (uint32_t i = 0; i < n; i++) {
         int64_t w, y, s;
-        if (order == 1 && BY_CLANG) {
+        if (made) {
             w = from[i] - m;
-            m = a1 * w / 65536;
-            y = clip(v1 + m);
+            m = quotient(a1, w, v1, &y);
         } else if (order == 1) {
-            w = (65536 * (int64_t)from[i] + (v1 < 0 ? below : above) - m) >> 16;
+            w = less(form.w, from[i], 0, m);
             m = a1 * w;
-            y = clip(v1 + cut16(output, m));
+            y = more(form.y, v1, m);
         } else if (order == 2) {
-            w = less(from[i], q, m);
+            w = less(form.w, from[i], q, m);
             q = t;
             t = a2 * w;
-            y = clip(v2 + cut16(output, t + m));
+            y = more(form.y, v2, t + m);
             m = a1 * w;
             v2 = v1;
         } else {
-            w = BY_CLANG ? less(from[i], q, m) : from[i] - (m + q) / 65536;
+            w = less(form.w, from[i], q, m);
             q = t + u2;
             u2 = u;
             u = a3 * w;
-            y = clip(v3 + (u + (t + m2)) / 65536);
+            y = more(form.y, v3, u + (t + m2));
             m2 = m;
             m = a1 * w;
             t = a2 * w;
@@ -93,19 +151,16 @@ stretch(Voice *v, const int32_t *restrict in, int32_t *restrict out, uint32_t n,
             v2 = v1;
         }
         v1 = w;
+        y = clip(y);
         if (coming) {
-            int64_t e = ahead[i];
-            if (coming == 1)
-                e -= b1 * e1 / 65536;
-            else if (coming == 2)
-                e = less(e, b2 * e2, b1 * e1);
-            else
-                e -= cut16(1, b1 * e1 + (b2 * e2 + b3 * e3));
+            int64_t e = coming == 1 ? less(e_form, ahead[i], 0, b1 * e1)
+                : coming == 2       ? less(e_form, ahead[i], b2 * e2, b1 * e1)
+                                    : less(e_form, ahead[i], b2 * e2 + b3 * e3, b1 * e1);
             e3 = e2;
             e2 = e1;
             e1 = e;
         }
-        s = cut17(loop, loss * (y + last));
+        s = back(form.s, loss, y + last);
         if (feeds)
             s += in[i];
         if (plucks) {
@@ -129,7 +184,7 @@ stretch(Voice *v, const int32_t *restrict in, int32_t *restrict out, uint32_t n,
 }
 
 /* The loop for what waits and for whether a pluck sounds, of one order in force. */
-static inline __attribute__((always_inline)) void
+INLINE void
 stretch_in(Voice *v, const int32_t *in, int32_t *out, uint32_t n, uint32_t order, int feeds)
 {
     switch ((v->waits ? v->next.order : 0) * 2 + (v->left != 0)) {
@@ -145,7 +200,7 @@ stretch_in(Voice *v, const int32_t *in, int32_t *out, uint32_t n, uint32_t order
 }
 
 /* The loop for the order in force and for what there is beside the filter. */
-static inline __attribute__((always_inline)) void stretch_of(Voice *v, const int32_t *in, int32_t *out, uint32_t n, int feeds)
+INLINE void stretch_of(Voice *v, const int32_t *in, int32_t *out, uint32_t n, int feeds)
 {
     switch (v->filter.order) {
     case 1: stretch_in(v, in, out, n, 1, feeds); break;

@@ -2,7 +2,7 @@
 -- Assumes nothing.
 use mathlib.Core.Path.{_≡_, refl, ap}
 use mathlib.Core.List.{List, [], _∷_, reverse, reverseAux}
-use Prim.Native.Nat.{ℕ, zero, suc, _+_, _*_, _≤_}
+use Prim.Native.Nat.{_^_, ℕ, zero, suc, _+_, _*_, _≤_}
 use native.Mathlib.Omega.{arith}
 use native.Mathlib.Nat.{mul-le-mul-left, mul-le-mul-right}
 use lib.IntN.{ℤ, pos, natAbs, _+ℤ_, _-ℤ_, _*ℤ_, +ℤ-idr, *ℤ-zero}
@@ -36,6 +36,10 @@ dot-within [] h = omega arith
 dot-within (a ∷ A) none = omega arith
 dot-within (a ∷ A) (more {x} {v} p h) =
     omega (arith, abs-+ (a *ℤ x) (dot A v), abs-* a x, mul-le-mul-left (natAbs a) p, dot-within A h)
+
+-- the sum of a filter's products
+pub dot-small : (A : List ℤ) {v : List ℤ} → norm A ≤ 32768 → Within (2 * M) v → natAbs (dot A v) ≤ 2 ^ 42
+dot-small A n h = omega (arith, dot-within A h, mul-le-mul-right (2 * M) n)
 
 pub norm-reverse : (A B : List ℤ) → norm (reverseAux A B) ≡ norm A + norm B
 norm-reverse [] B = omega arith

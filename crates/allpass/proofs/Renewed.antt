@@ -32,6 +32,9 @@ module _ (c : Coefficients) (v : State) where
   unfolding productsOf
   first-sum N e = rw (e, +ℤ-idr (c .a1 *ℤ v .v1)) refl
 
+  pub first-dot : (N : ℕ) → N ≡ 1 → R (c .a1 *ℤ v .v1) ≡ R (dot (taps N c) (held N v))
+  first-dot N e = rw (e, +ℤ-idr (c .a1 *ℤ v .v1)) refl
+
   -- what an output of order 1 takes is R(A1·w) too
   pub first-cut : (N : ℕ) (x : Multiples) → N ≡ 1 → cutOf N x ≡ R (lastOf N x +ℤ productsOf N c v .turned)
   unfolding productsOf

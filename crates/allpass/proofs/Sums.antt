@@ -63,12 +63,8 @@ module _ (a x : ℤ) (A v : List ℤ) (n : norm (a ∷ A) ≤ 32768) (h : Within
 last : (a x : ℤ) → norm (a ∷ []) ≤ 32768 → Within (2 * M) (x ∷ []) → back (times a x) ≡ dot (a ∷ []) (x ∷ [])
 last a x n h = product a x [] [] n h ∙ sym (+ℤ-idr (a *ℤ x))
 
--- ---- the sums of each order
+-- ---- the sums of orders 2 and 3
 module _ (c : Coefficients) (v : State) where
-  module _ (n : norm (taps 1 c) ≤ 32768) (h : Within (2 * M) (held 1 v)) where
-    pub sum-1 : back (times (c .a1) (v .v1)) ≡ dot (taps 1 c) (held 1 v)
-    sum-1 = last (c .a1) (v .v1) n h
-
   module _ (n : norm (taps 2 c) ≤ 32768) (h : Within (2 * M) (held 2 v)) where
     pub rest-2 : back (times (c .a2) (v .v2)) ≡ dot (c .a2 ∷ []) (v .v2 ∷ [])
     rest-2 = last (c .a2) (v .v2) (omega arith) (tail-within h)

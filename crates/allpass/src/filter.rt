@@ -1,5 +1,5 @@
-// Parts of one sample, w among them. What differs by order is in `oldest`, `shifted` and `weighed`, which has as
-// many products as the order. A state holds 0 past the order.
+// Parts of one sample. What differs by order is in `oldest`, `shifted` and `weighed`, which has as many products as
+// the order. A state holds 0 past the order.
 ghost use mathlib.Core.Path.{_≡_};
 ghost use Prim.Native.Nat.{_*_, _≤_};
 ghost use lib.IntN.{pos};
@@ -13,7 +13,6 @@ ghost use Rattle.allpass.specs.Bounds.{Within};
 ghost use Rattle.allpass.specs.Stored.{stored, held, Fed};
 use crate::State;
 use integer::Value;
-use integer::cut_q16;
 use thiran::formula::Coefficients;
 
 // vN.
@@ -56,23 +55,20 @@ pub fn shifted(order: u32, v: State, w: Value) -> State
     }
 }
 
-// R(A1·v1 + .. + AN·vN); the newest number of the state is added last.
+// A1·v1 + .. + AN·vN, above order 1; the newest number of the state is added last.
 pub fn weighed(order: u32, c: Coefficients, v: State) -> Value
-    requires { ⌜ (1 ≤ order) × (order ≤ orders) × (norm (taps order c) ≤ 32768)
+    requires { ⌜ (2 ≤ order) × (order ≤ orders) × (norm (taps order c) ≤ 32768)
         × Within (2 * M) (held order v) ⌝ }
-    ensures { λ r. ⌜ r .n ≡ R (dot (taps order c) (held order v)) ⌝ }
+    ensures { λ r. ⌜ r .n ≡ dot (taps order c) (held order v) ⌝ }
 {
-    if order == 1 {
-        return cut_q16(Value { n: c.a1 * v.v1 });
-    }
     if order == 2 {
-        return cut_q16(Value {
+        return Value {
             n: c.a1 * v.v1 + c.a2 * v.v2,
-        });
+        };
     }
-    cut_q16(Value {
+    Value {
         n: c.a1 * v.v1 + (c.a2 * v.v2 + c.a3 * v.v3),
-    })
+    }
 }
 
 // w, where r is R(A1·v1 + .. + AN·vN).

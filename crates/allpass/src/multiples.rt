@@ -10,9 +10,9 @@ ghost use Rattle.thiran.specs.Coefficients.{norm};
 ghost use Rattle.thiran.specs.Answers.{taps};
 ghost use Rattle.allpass.specs.Products.{scaledOf, lastOf, turnedOf, cutOf};
 use integer::Value;
+use integer::arithmetic::more;
 use integer::arithmetic::plus;
 use integer::arithmetic::times;
-use integer::cut_q16;
 use integer::signs::cut_product;
 use thiran::formula::Coefficients;
 
@@ -90,14 +90,15 @@ fn foremost(order: u32, x: Multiples) -> Value
     Value { n: x.x3 }
 }
 
-// R(AN·w + .. + A1·v(N−1)), where turned is its sum but for AN·w; in order 1 it was made before.
-pub fn reversed(order: u32, x: Multiples, turned: Value, made: Value) -> Value
-    requires { ⌜ (order ≡ 1 → made .n ≡ R (lastOf order x +ℤ turned .n))
-        × (natAbs (lastOf order x) ≤ 2 ^ 42) × (natAbs (turned .n) ≤ 2 ^ 42) ⌝ }
-    ensures { λ z. ⌜ z .n ≡ R (lastOf order x +ℤ turned .n) ⌝ }
+// vN + R(AN·w + .. + A1·v(N−1)), which is y before it is clipped: turned is that sum but for AN·w, and made is R of it
+// in order 1.
+pub fn output(order: u32, v: Value, x: Multiples, turned: Value, made: Value) -> Value
+    requires { ⌜ (order ≡ 1 → made .n ≡ R (lastOf order x +ℤ turned .n)) × (natAbs (v .n) ≤ 2 ^ 42)
+        × (natAbs (lastOf order x) ≤ 2 ^ 41) × (natAbs (turned .n) ≤ 2 ^ 41) ⌝ }
+    ensures { λ y. ⌜ y .n ≡ v .n +ℤ R (lastOf order x +ℤ turned .n) ⌝ }
 {
     if order == 1 {
-        return made;
+        return plus(v, made);
     }
-    cut_q16(plus(foremost(order, x), turned))
+    more(v, plus(foremost(order, x), turned))
 }

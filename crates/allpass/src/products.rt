@@ -1,5 +1,5 @@
 // One sample of the filter, its products carried from sample to sample for a loop: w times each coefficient
-// once, and between one w and the next a product, a difference, a choice by the sum's sign and a shift.
+// once, and between one w and the next a product, a difference and a shift, by the way that the sum's sign tells.
 ghost use mathlib.Core.Path.{_≡_};
 ghost use Prim.Native.Nat.{_≤_, _^_};
 ghost use lib.IntN.{pos, natAbs, _*ℤ_};
@@ -15,8 +15,8 @@ use crate::filter::oldest;
 use crate::filter::shifted;
 use crate::multiples::Multiples;
 use crate::multiples::beside;
+use crate::multiples::output;
 use crate::multiples::quotient;
-use crate::multiples::reversed;
 use crate::multiples::scaled;
 use integer::Value;
 use integer::arithmetic::less;
@@ -64,14 +64,14 @@ fn third(order: u32, v: State) -> Value
 }
 
 // w.
-pub fn entered(order: u32, c: Coefficients, v: State, k: Products, f: Value) -> Value
+fn entered(order: u32, c: Coefficients, v: State, k: Products, f: Value) -> Value
     requires { ⌜ Fed order c v (f .n) × (k ≡ productsOf order c v) ⌝ }
     ensures { λ w. ⌜ w .n ≡ Inner (taps order c) (held order v) (f .n) ⌝ }
 {
     if order == 1 {
         return inner(order, c, v, Value { n: k.cut }, f);
     }
-    less(f, Value { n: k.older }, Value { n: k.newest })
+    less(f, plus(Value { n: k.newest }, Value { n: k.older }))
 }
 
 // Those of the next state, whose w has the products x.
@@ -143,8 +143,13 @@ pub fn carry(order: u32, c: Coefficients, v: State, k: Products, f: Value) -> Ca
     let w = entered(order, c, v, k, f);
     let x = scaled(order, c, w);
     let n = renewed(order, c, w, k, x);
-    let z = reversed(order, x, Value { n: k.turned }, Value { n: n.cut });
-    let y = plus(oldest(order, v), z);
+    let y = output(
+        order,
+        oldest(order, v),
+        x,
+        Value { n: k.turned },
+        Value { n: n.cut },
+    );
     let s = shifted(order, v, w);
     Carried {
         y: y,

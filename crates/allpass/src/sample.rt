@@ -9,10 +9,12 @@ use crate::filter::inner;
 use crate::filter::shifted;
 use crate::filter::weighed;
 use crate::products::carry;
-use crate::products::entered;
 use crate::products::of_state;
 use integer::Value;
+use integer::arithmetic::less;
+use integer::arithmetic::times;
 use integer::clip;
+use integer::signs::cut_product;
 use thiran::formula::Coefficients;
 
 // y is the output, and state the next state.
@@ -35,15 +37,17 @@ pub fn allpass(order: u32, c: Coefficients, v: State, f: Value) -> Filtered
     }
 }
 
-// w of the eliminator. In order 2 it is made of products, as a loop makes the filter's: that is faster there alone.
+// w of the eliminator: R by the signs of two factors in order 1, else by that of the sum, as in the filter.
 fn entering(order: u32, c: Coefficients, v: State, f: Value) -> Value
     requires { ⌜ Fed order c v (f .n) ⌝ }
     ensures { λ w. ⌜ w .n ≡ Inner (taps order c) (held order v) (f .n) ⌝ }
 {
-    if order == 2 {
-        return entered(order, c, v, of_state(order, c, v), f);
+    if order == 1 {
+        let a = Value { n: c.a1 };
+        let x = Value { n: v.v1 };
+        return inner(order, c, v, cut_product(a, x, times(a, x)), f);
     }
-    inner(order, c, v, weighed(order, c, v), f)
+    less(f, weighed(order, c, v))
 }
 
 // One sample of the eliminator: the next state.

@@ -1,19 +1,20 @@
--- A number f less the cut of a sum u is a floor: of 65,536·f − u where u is below 0, else of 65,535 more.
--- Assumes nothing.
+-- R(u) by a floor: that of u, or where u is below 0 that of −u with the other sign; and a number less or more R(u) by
+-- them. Assumes nothing.
 use mathlib.Core.Path.{_≡_, sym}
 use mathlib.Core.Bool.{true, false}
-use Prim.Native.Nat.{ℕ, _+_, _*_, _≤_, _<_}
+use Prim.Native.Nat.{ℕ, _+_, _*_, _≤_, _<_, _^_}
 use native.Mathlib.Omega.{arith}
-use native.Mathlib.Nat.{div-add-mod', mod-lt}
+use native.Mathlib.Nat.{div-add-mod', mod-lt, div-le-self}
 use lib.Dec.{lit<}
-use lib.IntN.{ℤ, pos, _+ℤ_, _-ℤ_, _*ℤ_}
+use lib.IntN.{ℤ, pos, natAbs, _+ℤ_, _-ℤ_, _*ℤ_}
 use lib.Signed.{ltZ}
 use Rattle.integer.specs.Parts.{up, dn}
 use Rattle.integer.specs.Rounding.{floor}
 use Rattle.integer.specs.Cut.{R}
 use Rattle.integer.proofs.View.{+v, -v, *v, onev, Zs}
+use Rattle.integer.proofs.Ring.{abs--}
 use Rattle.integer.proofs.Rounding.{floor-only}
-use Rattle.integer.proofs.Cut.{cutv}
+use Rattle.integer.proofs.Cut.{cutv, R-abs}
 
 -- each part of u is 65,536 times that of R(u), and less than 65,536 more
 sized : (u : ℤ)
@@ -31,38 +32,41 @@ sized u =
       mod-lt (dn u) h,
     )
 
-module _ (f q m : ℤ) where
-  abbrev u : ℤ
-  u = m +ℤ q
+module _ (u : ℤ) where
+  -- R(u) with the other sign
+  abbrev n : ℤ
+  n = pos 0 -ℤ R u
 
-  abbrev w : ℤ
-  w = f -ℤ R u
-
-  abbrev p : ℤ
-  p = pos 65536 *ℤ f -ℤ q
-
-  pub below-zero : ltZ u (pos 0) ≡ true → floor (p -ℤ m) 65536 ≡ w
-  below-zero e =
+  pub turned : ltZ u (pos 0) ≡ true → floor (pos 0 -ℤ u) 65536 ≡ n
+  turned e =
       let s = sized u in
-      let a = *v (pos 65536) f in
-      let b = -v (pos 65536 *ℤ f) q in
-      let d = *v (pos 65536) w in
-      let g = -v f (R u) in
+      let d = *v (pos 65536) n in
+      let g = -v (pos 0) (R u) in
+      let h = -v (pos 0) u in
       sym
-      (floor-only (p -ℤ m) w 65536 (lit< tt)
-      (omega (Zs, s, a, b, d, g, -v p m, +v m q, onev u))
-      (omega (Zs, s, a, b, d, g, -v p m, +v m q, onev u, +v (pos 65536 *ℤ w) (pos 65536))))
+      (floor-only (pos 0 -ℤ u) n 65536 (lit< tt)
+      (omega (Zs, s, d, g, h, onev u))
+      (omega (Zs, s, d, g, h, onev u, +v (pos 65536 *ℤ n) (pos 65536))))
 
-  pub not-below-zero : ltZ u (pos 0) ≡ false → floor ((p +ℤ pos 65535) -ℤ m) 65536 ≡ w
-  not-below-zero e =
+  pub straight : ltZ u (pos 0) ≡ false → floor u 65536 ≡ R u
+  straight e =
       let s = sized u in
-      let r = p +ℤ pos 65535 in
-      let a = *v (pos 65536) f in
-      let b = -v (pos 65536 *ℤ f) q in
-      let h = +v p (pos 65535) in
-      let d = *v (pos 65536) w in
-      let g = -v f (R u) in
+      let d = *v (pos 65536) (R u) in
       sym
-      (floor-only (r -ℤ m) w 65536 (lit< tt)
-      (omega (Zs, s, a, b, d, g, h, -v r m, +v m q, onev u))
-      (omega (Zs, s, a, b, d, g, h, -v r m, +v m q, onev u, +v (pos 65536 *ℤ w) (pos 65536))))
+      (floor-only u (R u) 65536 (lit< tt)
+      (omega (Zs, s, d, onev u))
+      (omega (Zs, s, d, onev u, +v (pos 65536 *ℤ R u) (pos 65536))))
+
+  -- a number less or more that
+  pub less-turned : (f : ℤ) → f +ℤ n ≡ f -ℤ R u
+  less-turned f = omega (Zs, +v f n, -v (pos 0) (R u), -v f (R u))
+
+  pub more-turned : (f : ℤ) → f -ℤ n ≡ f +ℤ R u
+  more-turned f = omega (Zs, -v f n, -v (pos 0) (R u), +v f (R u))
+
+  -- neither is larger than u
+  pub straight-small : natAbs u ≤ 2 ^ 42 → natAbs (R u) ≤ 2 ^ 42
+  straight-small h = omega (arith, R-abs u, div-le-self (natAbs u) 65536)
+
+  pub turned-small : natAbs u ≤ 2 ^ 42 → natAbs n ≤ 2 ^ 42
+  turned-small h = omega (arith, abs-- (pos 0) (R u), straight-small h)

@@ -1,5 +1,5 @@
-// Operations on numbers that are small enough, one or two in each function. `less` is the way from a filter's
-// sum of products to its next number: a sum, whose sign chooses, a difference and a shift.
+// Operations on numbers that are small enough, one or two in each function. `less` and `more` take R of a sum by
+// two ways, of which the sum's sign tells one: so different that LLVM keeps a branch, which mostly is foreseen.
 ghost use mathlib.Core.Path.{_≡_};
 ghost use Prim.Native.Nat.{_≤_, _^_};
 ghost use lib.IntN.{pos, natAbs, _+ℤ_, _-ℤ_, _*ℤ_};
@@ -57,14 +57,24 @@ fn is_below_zero(u: Value) -> bool
     u.n < 0
 }
 
-// f − R(m + q): of two differences the one that the sum's sign tells, so that only one waits for m.
-pub fn less(f: Value, q: Value, m: Value) -> Value
-    requires { ⌜ (natAbs (f .n) ≤ 2 ^ 24) × (natAbs (q .n) ≤ 2 ^ 40) × (natAbs (m .n) ≤ 2 ^ 40) ⌝ }
-    ensures { λ r. ⌜ r .n ≡ f .n -ℤ R (m .n +ℤ q .n) ⌝ }
+// f − R(u).
+pub fn less(f: Value, u: Value) -> Value
+    requires { ⌜ (natAbs (f .n) ≤ 2 ^ 42) × (natAbs (u .n) ≤ 2 ^ 42) ⌝ }
+    ensures { λ r. ⌜ r .n ≡ f .n -ℤ R (u .n) ⌝ }
 {
-    let p = minus(times(Value { n: 65_536 }, f), q);
-    if is_below_zero(plus(m, q)) {
-        return floor_q16(minus(p, m));
+    if is_below_zero(u) {
+        return plus(f, floor_q16(minus(Value { n: 0 }, u)));
     }
-    floor_q16(minus(plus(p, Value { n: 65_535 }), m))
+    minus(f, floor_q16(u))
+}
+
+// f + R(u).
+pub fn more(f: Value, u: Value) -> Value
+    requires { ⌜ (natAbs (f .n) ≤ 2 ^ 42) × (natAbs (u .n) ≤ 2 ^ 42) ⌝ }
+    ensures { λ r. ⌜ r .n ≡ f .n +ℤ R (u .n) ⌝ }
+{
+    if is_below_zero(u) {
+        return minus(f, floor_q16(minus(Value { n: 0 }, u)));
+    }
+    plus(f, floor_q16(u))
 }

@@ -7,7 +7,6 @@ ghost use mathlib.Core.Path.{_≡_};
 ghost use Prim.Native.Nat.{_+_, _*_, _%_, _^_, _≤_, _<_};
 ghost use lib.IntN.{natAbs};
 ghost use Rattle.integer.specs.Rounding.{clip as Clip, floor, nearest as Nearest};
-ghost use Rattle.integer.specs.Cut.{R, Q};
 
 pub struct Value {
     pub n: i64,
@@ -37,20 +36,6 @@ pub fn floor_div(u: Value, m: u64) -> Value
         return Value { n: q - 1 };
     }
     Value { n: q }
-}
-
-// R(u): u / 65,536 cut toward zero.
-pub fn cut_q16(u: Value) -> Value
-    ensures { λ r. ⌜ r .n ≡ R (u .n) ⌝ }
-{
-    Value { n: u.n / 65_536 }
-}
-
-// Q(u), the division of the loop: u / 131,072 cut toward zero.
-pub fn cut_q17(u: Value) -> Value
-    ensures { λ r. ⌜ r .n ≡ Q (u .n) ⌝ }
-{
-    Value { n: u.n / 131_072 }
 }
 
 // p / q to the nearest, a half upward.

@@ -22,6 +22,20 @@ use Rattle.loops.specs.Carried.{anewOf, carriedOf, ranOf, goneOf, Leads}
 use Rattle.loops.proofs.Carrying.{anew-self, kept-self, carried-self, quiet-steps, led-steps}
 use Rattle.loops.proofs.Carrying.{due-later, due-self, due-as}
 
+-- ---- which loop it is
+-- nothing waits, and no eliminator runs
+pub none-leads : (W : Waiting) (e : Filter) (n a : ℕ) → W ≡ Idle → Leads W 0 e n a
+none-leads W e n a q = subst (λ (w : Waiting). Leads w 0 e n a) (sym q) refl
+
+-- the order of the change that waits is K
+pub leads-by : (W : Waiting) (e : Filter) (n a : ℕ) {K : ℕ} → K ≡ e .tuning .order → Leads W (e .tuning .order) e n a
+    → Leads W K e n a
+leads-by W e n a q l = subst (λ (K : ℕ). Leads W K e n a) (sym q) l
+
+-- an order that is neither 1 nor 2
+pub third : (N : ℕ) → 1 ≤ N → N ≤ 3 → (N ≡ 1 → ⊥) → (N ≡ 2 → ⊥) → 3 ≡ N
+third N l m a b = omega (arith, a, b)
+
 -- ---- before the first sample
 -- u is the state of the eliminator
 abbrev pub Rests : Waiting → State → Type 0

@@ -63,7 +63,7 @@ fn plucked(
         let t = carry(order, c, v, k, x);
         let y = clip(t.y);
         let o = sound(p);
-        let b = looped(order, h.loss, y, last);
+        let b = looped(h.loss, y, last);
         let s = mixed(input(fed, buffer, i), o.noise, b);
         samples::write(line, at + i, s);
         samples::write(buffer, i, y);

@@ -1,7 +1,9 @@
 // The loop. It renders a stretch in which no place comes to the ring's end, with the state and the products that
-// the next w takes in locals, and stops before a sample whose output is to be clipped.
+// the next w takes in locals. Above order 1 it stops before a sample whose output is to be clipped.
 ghost use mathlib.Core.Path.{_≡_};
+ghost use mathlib.Core.Bool.{not};
 ghost use Prim.Native.Nat.{_+_, _-_, _%_, _≤_, _<_};
+ghost use lib.Dec.{leb};
 ghost use lib.IntN.{pos, natAbs, _+ℤ_, _*ℤ_};
 ghost use lib.ListN.{length};
 ghost use Rattle.integer.specs.Rounding.{M, clip as Clip};
@@ -24,6 +26,7 @@ use allpass::products::carry;
 use allpass::products::of_state;
 use allpass::sample::eliminate;
 use integer::Value;
+use integer::clip;
 use step::feedback::looped;
 use step::feedback::mixed;
 use thiran::formula::Coefficients;
@@ -31,26 +34,40 @@ use voice::Filter;
 use voice::Head;
 
 // s(n). What the loop brings back is a sample, so that it is clipped only where something comes in.
-fn newest(
-    order: u32,
-    fed: bool,
-    buffer: &[i32],
-    i: usize,
-    loss: u32,
-    y: Value,
-    last: Value,
-) -> Value
+fn newest(fed: bool, buffer: &[i32], i: usize, loss: u32, y: Value, last: Value) -> Value
     requires { ⌜ (i < length (now buffer)) × (natAbs (inputOf fed (now buffer) i) ≤ M) ⌝ }
     requires { ⌜ (loss ≤ 65535) × (natAbs (y .n) ≤ M) × (natAbs (last .n) ≤ M) ⌝ }
     ensures { λ r. ⌜ r .n ≡ Clip ((inputOf fed (now (buffer .entry)) i +ℤ pos 0)
         +ℤ Q (pos loss *ℤ (y .n +ℤ last .n))) ⌝ }
 {
     let x = input(fed, buffer, i);
-    let b = looped(order, loss, y, last);
+    let b = looped(loss, y, last);
     if fed {
         return mixed(x, Value { n: 0 }, b);
     }
     b
+}
+
+// y(n) as the loop has it: order 1 clips it. LLVM makes a branch of that in order 1 alone, where it is faster than
+// to stop.
+fn heard(order: u32, y: Value) -> Value
+    ensures { λ r. ⌜ (Clip (r .n) ≡ Clip (y .n)) × (order ≡ 1 → natAbs (r .n) ≤ M) ⌝ }
+{
+    if order == 1 {
+        return clip(y);
+    }
+    y
+}
+
+// y(n) is still to be clipped: never in order 1.
+fn is_loud(order: u32, y: Value) -> bool
+    requires { ⌜ (order ≡ 1 → natAbs (y .n) ≤ M) ⌝ }
+    ensures { λ r. ⌜ r ≡ not (leb (natAbs (y .n)) M) ⌝ }
+{
+    if order == 1 {
+        return false;
+    }
+    !samples::is_sample(y)
 }
 
 // The next state of an eliminator that takes g; u where none runs.
@@ -64,8 +81,9 @@ fn led(coming: u32, c: Coefficients, u: State, g: Value) -> State
     eliminate(coming, c, u, g)
 }
 
-// Renders samples of the buffer. from and far are the places that the filter and an eliminator e read at first;
-// coming is the order of e, or 0 where nothing waits. An announced change does not take effect before the end.
+// Renders samples of the buffer. loss and at are those of h, handed in so that LLVM compiles the loop into its
+// caller, once for each order; from and far are the places that the filter and an eliminator e read at first; coming
+// is the order of e, or 0 where nothing waits. An announced change does not take effect before the end.
 pub fn run(
     line: &mut [i32; 2112],
     order: u32,
@@ -73,12 +91,14 @@ pub fn run(
     fed: bool,
     h: Head,
     e: Filter,
+    loss: u32,
+    at: usize,
     from: usize,
     far: usize,
     buffer: &mut [i32],
 ) -> Led
     requires { ⌜ Valid h (now line) × (loudest (fedOf fed 0 (now buffer)) ≤ M) ⌝ }
-    requires { ⌜ (order ≡ h .filter .tuning .order) × (h .pluck .left ≡ 0)
+    requires { ⌜ (order ≡ h .filter .tuning .order) × (h .pluck .left ≡ 0) × (loss ≡ h .loss) × (at ≡ h .at)
         × Leads (h .waiting) coming e (length (now buffer)) (h .advance) ⌝ }
     requires { ⌜ (from ≡ (h .at + 2112 - h .filter .tuning .length) % 2112)
         × (far ≡ (h .at + 2112 - e .tuning .length) % 2112)
@@ -87,19 +107,17 @@ pub fn run(
     ensures { λ r. ⌜ Went fed (now (buffer .entry)) h (now (line .entry)) (now (buffer .exit)) (afterOf h r)
         (now (line .exit)) (r .ran .done) ⌝ }
 {
-    let c = h.filter.coefficients;
-    let at = h.at;
     let mut v = kept(order, h.filter.state);
-    let mut k = of_state(order, c, v);
+    let mut k = of_state(order, h.filter.coefficients, v);
     let mut u = kept(coming, e.state);
     let mut last = h.last;
     let mut i = 0;
     while i < buffer.len() {
         let x = samples::read(line, from + i);
         let g = samples::read(line, far + i);
-        let t = carry(order, c, v, k, x);
-        let y = t.y;
-        if !samples::is_sample(y) {
+        let t = carry(order, h.filter.coefficients, v, k, x);
+        let y = heard(order, t.y);
+        if is_loud(order, y) {
             let r = Ran {
                 state: v,
                 last: last,
@@ -107,7 +125,7 @@ pub fn run(
             };
             return Led { ran: r, next: u };
         }
-        let s = newest(order, fed, buffer, i, h.loss, y, last);
+        let s = newest(fed, buffer, i, loss, y, last);
         samples::write(line, at + i, s);
         samples::write(buffer, i, y);
         let n = led(coming, e.coefficients, u, g);

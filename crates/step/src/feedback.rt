@@ -14,7 +14,6 @@ use integer::Value;
 use integer::arithmetic::plus;
 use integer::arithmetic::scale;
 use integer::clip;
-use integer::cut_q17;
 use integer::signs::cut_as;
 use voice::Filter;
 
@@ -25,18 +24,14 @@ pub struct Circulated {
     pub at: usize,
 }
 
-// What the loop brings back: G·(y(n) + y(n − 1)), cut toward zero. In order 1 the sum's sign tells which way it is
-// cut: there alone that was faster in most rows of bench/run.
-pub fn looped(order: u32, loss: u32, y: Value, last: Value) -> Value
+// What the loop brings back: G·(y(n) + y(n − 1)), cut toward zero. The sum's sign, known before the product, tells
+// which way.
+pub fn looped(loss: u32, y: Value, last: Value) -> Value
     requires { ⌜ (loss ≤ 65535) × (natAbs (y .n) ≤ M) × (natAbs (last .n) ≤ M) ⌝ }
     ensures { λ r. ⌜ (r .n ≡ Q (pos loss *ℤ (y .n +ℤ last .n))) × (natAbs (r .n) ≤ M) ⌝ }
 {
     let t = plus(y, last);
-    let z = scale(loss, t);
-    if order == 1 {
-        return cut_as(t, z);
-    }
-    cut_q17(z)
+    cut_as(t, scale(loss, t))
 }
 
 // s(n): the input, the noise sample and what the loop brings back, clipped.
@@ -68,7 +63,7 @@ pub fn circulate(
     let a = line::read(line, at, f.tuning.length as usize);
     let o = hear(f, a);
     let y = o.y;
-    let s = mixed(x, noise, looped(f.tuning.order, loss, y, last));
+    let s = mixed(x, noise, looped(loss, y, last));
     let next = line::write(line, at, s);
     let n = o.filter;
     Circulated {

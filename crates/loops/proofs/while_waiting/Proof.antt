@@ -30,18 +30,24 @@ place-requires-2 c κs =
     let t = waits s .tuned in
     (s .pre .0 .0 .fit .at, t .short, omega (arith, t .long))
 
-by-orders-requires : tie.Need-by-orders-requires
-by-orders-requires c κs =
-    let far = c .before .before in
-    let from = far .before .before in
-    let s = from .before .before in
+leads : (s : tie.Start)
+    → Leads (s .args .h .waiting) (s .args .e .tuning .order) (s .args .e) (length (s .args .buffer .now))
+    (s .args .h .advance)
+leads s =
     let a = s .args in
-    let n = length (a .buffer .now) in
-    let leads = subst (λ (w : Waiting). Leads w (a .e .tuning .order) (a .e) n (a .h .advance))
-    (sym (s .pre .1 .0)) (refl, refl, s .pre .0 .2) in (
-      (s .pre .0 .0, s .pre .0 .1),
+    subst (λ (w : Waiting). Leads w (a .e .tuning .order) (a .e) (length (a .buffer .now)) (a .h .advance))
+    (sym (s .pre .1 .0)) (refl, refl, s .pre .0 .2)
+
+-- ---- something comes in
+run-requires : tie.Need-run-requires
+run-requires c κs =
+    let t = c .before .before in
+    let far = t .before in
+    let from = far .before .before in
+    let s = from .before .before in (
+      (s .pre .0 .0, rw (t .if1 .taken) at (s .pre .0 .1)),
       (
-        (s .pre .1 .1, waits s .tuned, leads),
+        (refl, s .pre .1 .1, refl, refl, leads s),
         (from .place .ensures, far .place2 .ensures, s .pre .1 .2, s .pre .1 .3),
       ),
     )
@@ -50,7 +56,27 @@ same-length : tie.Need-same-length
 same-length c = search needs
 
 returns : tie.Need-returns
-returns c = search needs
+returns c = rw (c .before .before .before .before .if1 .taken) (c .before .run .ensures)
+
+-- ---- nothing comes in
+by-orders-requires : tie.Need-by-orders-requires
+by-orders-requires c κs =
+    let t = c .before .before in
+    let far = t .before in
+    let from = far .before .before in
+    let s = from .before .before in (
+      (s .pre .0 .0, rw (t .if1 .left) at (s .pre .0 .1)),
+      (
+        (s .pre .1 .1, waits s .tuned, leads s),
+        (from .place .ensures, far .place2 .ensures, s .pre .1 .2, s .pre .1 .3),
+      ),
+    )
+
+same-length-2 : tie.Need-same-length-2
+same-length-2 c = search needs
+
+returns-2 : tie.Need-returns-2
+returns-2 c = rw (c .before .before .before .before .if1 .left) (c .before .by-orders .ensures)
 
 pub while-waiting-spec : {M : Type 1} → statement M
 while-waiting-spec =
@@ -60,6 +86,9 @@ while-waiting-spec =
     place-requires
     cast-place-2
     place-requires-2
-    by-orders-requires
+    run-requires
     same-length
-    returns)
+    returns
+    by-orders-requires
+    same-length-2
+    returns-2)

@@ -4,7 +4,6 @@ use mathlib.Core.Path.{_≡_, sym, ap, subst, _∙_}
 use mathlib.Core.List.{List, reverse}
 use Prim.Native.Nat.{ℕ, _*_, _≤_, _^_}
 use native.Mathlib.Omega.{arith}
-use native.Mathlib.Nat.{div-le-self}
 use borrow.Author.Needs.{needs}
 use lib.IntN.{ℤ, pos, natAbs, _+ℤ_}
 use mir.Syntax.{w64}
@@ -12,8 +11,6 @@ use mir.Val.{toZ, ofZ}
 use Rattle.integer.specs.Rounding.{M, clip}
 use Rattle.integer.specs.Cut.{R}
 use Rattle.integer.proofs.View.{read}
-use Rattle.integer.proofs.Ring.{abs-+}
-use Rattle.integer.proofs.Cut.{R-abs}
 use Rattle.thiran.specs.Answers.{taps}
 use Rattle.allpass.specs.Allpass.{dot, final, shift, next, out}
 use Rattle.allpass.specs.Stored.{stored, held}
@@ -86,10 +83,13 @@ renewed-requires c κs =
       ),
     )
 
+oldest-requires : tie.Need-oldest-requires
+oldest-requires c κs = search needs
+
 -- ---- the sum that the output takes
 module _ (c : tie.After-struct-told2) where
   abbrev x-made : tie.After-scaled
-  x-made = c .before .before .before
+  x-made = c .before .before .before .before
 
   abbrev start : tie.Start
   start = x-made .before .before
@@ -100,13 +100,13 @@ module _ (c : tie.After-struct-told2) where
       (ap (λ (k : Products). k .turned) (start .pre .1))
 
   abbrev n : Products
-  n = c .before .before .renewed .result
+  n = c .before .before .before .renewed .result
 
   cut-read : N start ≡ 1
       → toZ w64 (ofZ w64 (n .cut)) ≡ R (lastOf (N start) (x-made .scaled .result) +ℤ k start .turned)
   cut-read e =
       read w64 (n .cut) (c .struct-told2 .given .0 .1)
-      (ap (λ (k : Products). k .cut) (c .before .before .renewed .ensures)
+      (ap (λ (k : Products). k .cut) (c .before .before .before .renewed .ensures)
       ∙ first-cut (start .args .c) (start .args .v) (N start) (x-made .scaled .result) e)
 
   last : natAbs (lastOf (N start) (x-made .scaled .result)) ≤ 2 ^ 39
@@ -116,38 +116,15 @@ module _ (c : tie.After-struct-told2) where
       subst (λ (x : Multiples). natAbs (lastOf (N start) x) ≤ 2 ^ 39) (sym (x-made .scaled .ensures))
       (last-little (N start) x (f .least) (f .most) (little (x-made .before)))
 
-reversed-requires : tie.Need-reversed-requires
-reversed-requires c κs =
-    let t = sym (turned-read c) in (
+output-requires : tie.Need-output-requires
+output-requires c κs =
+    let t = sym (turned-read c) in
+    let o = c .before .before in (
       λ e. cut-read c e ∙ ap (λ (u : ℤ). R (lastOf (N (start c)) (x-made c .scaled .result) +ℤ u)) t,
+      rw (o .oldest .ensures)
+          (omega (arith, final-within (pos 0) (omega arith) (start c .pre .0 .state-within))),
       omega (arith, last c),
-      subst (λ (u : ℤ). natAbs u ≤ 2 ^ 42) t (omega (arith, fit (start c) .turned)),
-    )
-
-oldest-requires : tie.Need-oldest-requires
-oldest-requires c κs = search needs
-
--- R(AN·w + .. + A1·v(N−1))
-is-reversed : (c : tie.After-reversed)
-    → c .reversed .result .n
-    ≡ R (lastOf (N (start (c .before))) (x-made (c .before) .scaled .result) +ℤ k (start (c .before)) .turned)
-is-reversed c =
-    let t = c .before in
-    c .reversed .ensures
-    ∙ ap (λ (u : ℤ). R (lastOf (N (start t)) (x-made t .scaled .result) +ℤ u)) (turned-read t)
-
-cut-small : (u : ℤ) → natAbs u ≤ 2 ^ 42 → natAbs (R u) ≤ 2 ^ 42
-cut-small u h = omega (arith, R-abs u, div-le-self (natAbs u) 65536)
-
-plus-requires : tie.Need-plus-requires
-plus-requires c κs =
-    let r = c .before in
-    let t = r .before in
-    let s = start t in
-    let a = lastOf (N s) (x-made t .scaled .result) in
-    let b = k s .turned in (
-      rw (c .oldest .ensures) (omega (arith, final-within (pos 0) (omega arith) (s .pre .0 .state-within))),
-      rw (is-reversed r) (cut-small (a +ℤ b) (omega (arith, abs-+ a b, last t, fit s .turned))),
+      subst (λ (u : ℤ). natAbs u ≤ 2 ^ 41) t (omega (arith, fit (start c) .turned)),
     )
 
 shifted-requires : tie.Need-shifted-requires
@@ -155,11 +132,8 @@ shifted-requires c κs = search needs
 
 -- ---- what is returned
 module _ (c : tie.After-shifted) where
-  abbrev r-made : tie.After-reversed
-  r-made = c .before .before .before
-
   abbrev told : tie.After-struct-told2
-  told = r-made .before
+  told = c .before .before
 
   abbrev s : tie.Start
   s = start told
@@ -181,17 +155,19 @@ module _ (c : tie.After-shifted) where
       ∙ turned-sum (s .args .c) (s .args .v) z (N s) (f .least) (f .most)
       ∙ ap (dot (reverse (A s))) is-next
 
-  heard : c .before .plus .result .n
+  heard : c .before .output .result .n
       ≡ final (pos 0) (v s) +ℤ R (dot (reverse (A s)) (next (A s) (v s) (s .args .f .n)))
   heard =
-      c .before .plus .ensures
-      ∙ ap (λ (y : ℤ). y +ℤ r-made .reversed .result .n) (c .before .before .oldest .ensures)
-      ∙ ap (λ (y : ℤ). final (pos 0) (v s) +ℤ y) (is-reversed r-made ∙ ap R is-sum)
+      let o = told .before .before in
+      c .before .output .ensures
+      ∙ ap (λ (u : ℤ). o .oldest .result .n +ℤ R (lastOf (N s) x +ℤ u)) (turned-read told)
+      ∙ ap (λ (y : ℤ). y +ℤ R (lastOf (N s) x +ℤ k s .turned)) (o .oldest .ensures)
+      ∙ ap (λ (u : ℤ). final (pos 0) (v s) +ℤ R u) is-sum
 
-  carried : told .before .before .renewed .result ≡ productsOf (N s) (s .args .c) (c .shifted .result)
+  carried : told .before .before .before .renewed .result ≡ productsOf (N s) (s .args .c) (c .shifted .result)
   carried =
       let f = s .pre .0 in
-      told .before .before .renewed .ensures
+      told .before .before .before .renewed .ensures
       ∙ ap (λ (k : Products). renewedOf (N s) k x) (s .pre .1)
       ∙ ap (λ (x : Multiples). renewedOf (N s) (k s) x) (x-made told .scaled .ensures)
       ∙ renewed (s .args .c) (s .args .v) z (N s) (f .least) (f .most)
@@ -208,8 +184,7 @@ carry-spec =
     entered-requires
     scaled-requires
     renewed-requires
-    reversed-requires
     oldest-requires
-    plus-requires
+    output-requires
     shifted-requires
     returns)

@@ -8,9 +8,12 @@ use mir.Syntax.{w64}
 use mir.Val.{toZ, ofZ}
 use Rattle.integer.specs.Cut.{R}
 use Rattle.integer.proofs.View.{read}
-use Rattle.allpass.specs.Allpass.{inner}
+use Rattle.thiran.specs.Answers.{taps}
+use Rattle.allpass.specs.Allpass.{dot, inner}
+use Rattle.allpass.specs.Stored.{held}
 use Rattle.allpass.specs.Products.{productsOf}
 use Rattle.allpass.specs.declared.products.Products.{Products}
+use Rattle.allpass.proofs.Bounds.{dot-small}
 use Rattle.allpass.proofs.Renewed.{first-sum, older-sum}
 use Rattle.allpass.proofs.Little.{Fits, products-fit}
 use Rattle.allpass.proofs.products.entered.Statement.{statement}
@@ -52,21 +55,31 @@ module _ (c : tie.After-struct-told3) where
       read w64 (start .args .k .newest) (c .struct-told3 .given .1 .0 .1)
       (ap (λ (k : Products). k .newest) (start .pre .1))
 
+plus-requires : tie.Need-plus-requires
+plus-requires c κs =
+    (rw (newest-read c) (omega (arith, fit c .newest)), rw (older-read c) (omega (arith, fit c .older)))
+
+-- A1·v1 + .. + AN·vN
+is-sum : (c : tie.After-plus) → c .plus .result .n
+    ≡ dot (taps (start (c .before) .args .order) (start (c .before) .args .c))
+    (held (start (c .before) .args .order) (start (c .before) .args .v))
+is-sum c =
+    let t = c .before in
+    let s = start t in
+    rw (newest-read t, older-read t) at (c .plus .ensures)
+    ∙ older-sum (s .args .c) (s .args .v) (s .args .order) (omega arith) (s .pre .0 .most)
+
 less-requires : tie.Need-less-requires
 less-requires c κs =
-    let s = start c in
-    let n = fit c .newest in
-    (omega (arith, s .pre .0 .sample), rw (older-read c) (fit c .older), rw (newest-read c) (omega (arith, n)))
+    let s = start (c .before) in
+    let f = s .pre .0 in
+    (omega (arith, f .sample), rw (is-sum c) (dot-small (taps (s .args .order) (s .args .c)) (f .taps-small) (f .state-within)))
 
 returns-2 : tie.Need-returns-2
 unfolding inner
 returns-2 c =
-    let t = c .before in
-    let s = start t in
-    let N = s .args .order in
-    let e = rw (older-read t, newest-read t) at (c .less .ensures) in
-    let f = s .pre .0 in
-    e ∙ ap (λ (u : ℤ). s .args .f .n -ℤ R u) (older-sum (s .args .c) (s .args .v) N (omega arith) (f .most))
+    let s = start (c .before .before) in
+    c .less .ensures ∙ ap (λ (u : ℤ). s .args .f .n -ℤ R u) (is-sum (c .before))
 
 pub entered-spec : {M : Type 1} → statement M
-entered-spec = tie.close (tie.spec inner-requires returns less-requires returns-2)
+entered-spec = tie.close (tie.spec inner-requires returns plus-requires less-requires returns-2)

@@ -1,28 +1,26 @@
 -- `loops::orders::by_order` meets its contract: the filter's order is 1, 2 or 3.
 -- Assumes nothing.
-use mathlib.Core.Path.{_≡_, refl, sym, subst}
-use native.Mathlib.Omega.{arith}
+use mathlib.Core.Path.{refl, sym}
 use borrow.Author.Needs.{needs}
 use lib.ListN.{length}
-use Rattle.voice.specs.declared.Waiting.{Waiting}
 use Rattle.loops.specs.Carried.{Leads}
+use Rattle.loops.proofs.Leading.{none-leads, third}
 use Rattle.loops.proofs.orders.by_order.Statement.{statement}
 use Rattle.loops.proofs.orders.by_order.Tie as tie
 
--- nothing waits, and no eliminator runs
-none : (s : tie.Start)
+idle : (s : tie.Start)
     → Leads (s .args .h .waiting) 0 (s .args .h .filter) (length (s .args .buffer .now)) (s .args .h .advance)
-none s =
+idle s =
     let h = s .args .h in
-    subst (λ (w : Waiting). Leads w 0 (h .filter) (length (s .args .buffer .now)) (h .advance))
-    (sym (s .pre .1 .0 .0)) refl
+    none-leads (h .waiting) (h .filter) (length (s .args .buffer .now)) (h .advance) (s .pre .1 .0 .0)
 
 run-requires : tie.Need-run-requires
 run-requires c κs =
     let t = c .before .before in
-    let s = t .before .before in
+    let s = t .before in
     let p = s .pre .1 .1 in
-    (s .pre .0, ((sym (t .if1 .taken), s .pre .1 .0 .1, none s), (p .0, p .0, p .1, p .1)))
+    let w = idle s in
+    (s .pre .0, ((sym (t .if1 .taken), s .pre .1 .0 .1, refl, refl, w), (p .0, p .0, p .1, p .1)))
 
 same-length : tie.Need-same-length
 same-length c = search needs
@@ -33,9 +31,10 @@ returns c = search needs
 run-requires-2 : tie.Need-run-requires-2
 run-requires-2 c κs =
     let t = c .before .before in
-    let s = t .before .before .before .before in
+    let s = t .before .before in
     let p = s .pre .1 .1 in
-    (s .pre .0, ((sym (t .if2 .taken), s .pre .1 .0 .1, none s), (p .0, p .0, p .1, p .1)))
+    let w = idle s in
+    (s .pre .0, ((sym (t .if2 .taken), s .pre .1 .0 .1, refl, refl, w), (p .0, p .0, p .1, p .1)))
 
 same-length-2 : tie.Need-same-length-2
 same-length-2 c = search needs
@@ -46,12 +45,12 @@ returns-2 c = search needs
 run-requires-3 : tie.Need-run-requires-3
 run-requires-3 c κs =
     let t = c .before .before in
-    let s = t .before .before .before .before in
+    let s = t .before .before in
     let p = s .pre .1 .1 in
+    let w = idle s in
     let k = s .pre .0 .0 .fit .filter .takes in
-    let three : 3 ≡ s .args .h .filter .tuning .order
-    = omega (arith, k .least, k .most, t .if2 .left, t .before .before .if1 .left) in
-    (s .pre .0, ((three, s .pre .1 .0 .1, none s), (p .0, p .0, p .1, p .1)))
+    let n = third (s .args .h .filter .tuning .order) (k .least) (k .most) (t .before .if1 .left) (t .if2 .left) in
+    (s .pre .0, ((n, s .pre .1 .0 .1, refl, refl, w), (p .0, p .0, p .1, p .1)))
 
 same-length-3 : tie.Need-same-length-3
 same-length-3 c = search needs

@@ -1,33 +1,37 @@
 -- `loops::orders::by_orders` meets its contract: both orders are 1, 2 or 3.
 -- Assumes nothing.
-use mathlib.Core.Path.{_≡_, sym, subst}
-use Prim.Native.Nat.{ℕ, _≤_}
-use native.Mathlib.Omega.{arith}
+use mathlib.Core.Path.{_≡_, refl, sym}
+use Prim.Native.Nat.{ℕ}
 use borrow.Author.Needs.{needs}
 use lib.ListN.{length}
 use Rattle.loops.specs.Carried.{Leads}
+use Rattle.loops.proofs.Leading.{leads-by, third}
 use Rattle.loops.proofs.orders.by_orders.Statement.{statement}
 use Rattle.loops.proofs.orders.by_orders.Tie as tie
-
--- an order that is neither 1 nor 2
-third : (N : ℕ) → 1 ≤ N → N ≤ 3 → (N ≡ 1 → ⊥) → (N ≡ 2 → ⊥) → 3 ≡ N
-third N l m a b = omega (arith, a, b)
 
 -- the order of the change is K
 leads : (s : tie.Start) {K : ℕ} → K ≡ s .args .e .tuning .order
     → Leads (s .args .h .waiting) K (s .args .e) (length (s .args .buffer .now)) (s .args .h .advance)
-leads s q =
-    let a = s .args in
-    subst (λ (K : ℕ). Leads (a .h .waiting) K (a .e) (length (a .buffer .now)) (a .h .advance)) (sym q)
-    (s .pre .1 .0 .2)
+leads s k =
+    let h = s .args .h in
+    leads-by (h .waiting) (s .args .e) (length (s .args .buffer .now)) (h .advance) k (s .pre .1 .0 .2)
+
+-- the order of the filter, or of the change, is 3
+filter-third : (s : tie.Start) → (s .args .h .filter .tuning .order ≡ 1 → ⊥)
+    → (s .args .h .filter .tuning .order ≡ 2 → ⊥) → 3 ≡ s .args .h .filter .tuning .order
+filter-third s = let k = s .pre .0 .0 .fit .filter .takes in third (s .args .h .filter .tuning .order) (k .least) (k .most)
+
+change-third : (s : tie.Start) → (s .args .e .tuning .order ≡ 1 → ⊥) → (s .args .e .tuning .order ≡ 2 → ⊥)
+    → 3 ≡ s .args .e .tuning .order
+change-third s = let k = s .pre .1 .0 .1 .takes in third (s .args .e .tuning .order) (k .least) (k .most)
 
 run-requires : tie.Need-run-requires
 run-requires c κs =
     let t = c .before .before in
-    let s = t .before .before .before .before in
-    let n = sym (t .before .before .if1 .taken) in
+    let s = t .before .before in
+    let n = sym (t .before .if1 .taken) in
     let k = sym (t .if2 .taken) in
-    (s .pre .0, ((n, s .pre .1 .0 .0, leads s k), s .pre .1 .1))
+    (s .pre .0, ((n, s .pre .1 .0 .0, refl, refl, leads s k), s .pre .1 .1))
 
 same-length : tie.Need-same-length
 same-length c = search needs
@@ -38,10 +42,10 @@ returns c = search needs
 run-requires-2 : tie.Need-run-requires-2
 run-requires-2 c κs =
     let t = c .before .before in
-    let s = t .before .before .before .before .before .before in
-    let n = sym (t .before .before .before .before .if1 .taken) in
+    let s = t .before .before .before in
+    let n = sym (t .before .before .if1 .taken) in
     let k = sym (t .if3 .taken) in
-    (s .pre .0, ((n, s .pre .1 .0 .0, leads s k), s .pre .1 .1))
+    (s .pre .0, ((n, s .pre .1 .0 .0, refl, refl, leads s k), s .pre .1 .1))
 
 same-length-2 : tie.Need-same-length-2
 same-length-2 c = search needs
@@ -52,11 +56,10 @@ returns-2 c = search needs
 run-requires-3 : tie.Need-run-requires-3
 run-requires-3 c κs =
     let t = c .before .before in
-    let s = t .before .before .before .before .before .before in
-    let e = s .pre .1 .0 .1 .takes in
-    let n = sym (t .before .before .before .before .if1 .taken) in
-    let k = third (s .args .e .tuning .order) (e .least) (e .most) (t .before .before .if2 .left) (t .if3 .left) in
-    (s .pre .0, ((n, s .pre .1 .0 .0, leads s k), s .pre .1 .1))
+    let s = t .before .before .before in
+    let n = sym (t .before .before .if1 .taken) in
+    let k = change-third s (t .before .if2 .left) (t .if3 .left) in
+    (s .pre .0, ((n, s .pre .1 .0 .0, refl, refl, leads s k), s .pre .1 .1))
 
 same-length-3 : tie.Need-same-length-3
 same-length-3 c = search needs
@@ -67,10 +70,10 @@ returns-3 c = search needs
 run-requires-4 : tie.Need-run-requires-4
 run-requires-4 c κs =
     let t = c .before .before in
-    let s = t .before .before .before .before .before .before in
-    let n = sym (t .before .before .if4 .taken) in
+    let s = t .before .before .before in
+    let n = sym (t .before .if4 .taken) in
     let k = sym (t .if5 .taken) in
-    (s .pre .0, ((n, s .pre .1 .0 .0, leads s k), s .pre .1 .1))
+    (s .pre .0, ((n, s .pre .1 .0 .0, refl, refl, leads s k), s .pre .1 .1))
 
 same-length-4 : tie.Need-same-length-4
 same-length-4 c = search needs
@@ -81,10 +84,10 @@ returns-4 c = search needs
 run-requires-5 : tie.Need-run-requires-5
 run-requires-5 c κs =
     let t = c .before .before in
-    let s = t .before .before .before .before .before .before .before .before in
-    let n = sym (t .before .before .before .before .if4 .taken) in
+    let s = t .before .before .before .before in
+    let n = sym (t .before .before .if4 .taken) in
     let k = sym (t .if6 .taken) in
-    (s .pre .0, ((n, s .pre .1 .0 .0, leads s k), s .pre .1 .1))
+    (s .pre .0, ((n, s .pre .1 .0 .0, refl, refl, leads s k), s .pre .1 .1))
 
 same-length-5 : tie.Need-same-length-5
 same-length-5 c = search needs
@@ -95,11 +98,10 @@ returns-5 c = search needs
 run-requires-6 : tie.Need-run-requires-6
 run-requires-6 c κs =
     let t = c .before .before in
-    let s = t .before .before .before .before .before .before .before .before in
-    let e = s .pre .1 .0 .1 .takes in
-    let n = sym (t .before .before .before .before .if4 .taken) in
-    let k = third (s .args .e .tuning .order) (e .least) (e .most) (t .before .before .if5 .left) (t .if6 .left) in
-    (s .pre .0, ((n, s .pre .1 .0 .0, leads s k), s .pre .1 .1))
+    let s = t .before .before .before .before in
+    let n = sym (t .before .before .if4 .taken) in
+    let k = change-third s (t .before .if5 .left) (t .if6 .left) in
+    (s .pre .0, ((n, s .pre .1 .0 .0, refl, refl, leads s k), s .pre .1 .1))
 
 same-length-6 : tie.Need-same-length-6
 same-length-6 c = search needs
@@ -110,11 +112,10 @@ returns-6 c = search needs
 run-requires-7 : tie.Need-run-requires-7
 run-requires-7 c κs =
     let t = c .before .before in
-    let s = t .before .before .before .before .before .before in
-    let f = s .pre .0 .0 .fit .filter .takes in
-    let n = third (s .args .h .filter .tuning .order) (f .least) (f .most) (t .before .before .before .before .if1 .left) (t .before .before .if4 .left) in
+    let s = t .before .before .before in
+    let n = filter-third s (t .before .before .if1 .left) (t .before .if4 .left) in
     let k = sym (t .if7 .taken) in
-    (s .pre .0, ((n, s .pre .1 .0 .0, leads s k), s .pre .1 .1))
+    (s .pre .0, ((n, s .pre .1 .0 .0, refl, refl, leads s k), s .pre .1 .1))
 
 same-length-7 : tie.Need-same-length-7
 same-length-7 c = search needs
@@ -125,11 +126,10 @@ returns-7 c = search needs
 run-requires-8 : tie.Need-run-requires-8
 run-requires-8 c κs =
     let t = c .before .before in
-    let s = t .before .before .before .before .before .before .before .before in
-    let f = s .pre .0 .0 .fit .filter .takes in
-    let n = third (s .args .h .filter .tuning .order) (f .least) (f .most) (t .before .before .before .before .before .before .if1 .left) (t .before .before .before .before .if4 .left) in
+    let s = t .before .before .before .before in
+    let n = filter-third s (t .before .before .before .if1 .left) (t .before .before .if4 .left) in
     let k = sym (t .if8 .taken) in
-    (s .pre .0, ((n, s .pre .1 .0 .0, leads s k), s .pre .1 .1))
+    (s .pre .0, ((n, s .pre .1 .0 .0, refl, refl, leads s k), s .pre .1 .1))
 
 same-length-8 : tie.Need-same-length-8
 same-length-8 c = search needs
@@ -140,12 +140,10 @@ returns-8 c = search needs
 run-requires-9 : tie.Need-run-requires-9
 run-requires-9 c κs =
     let t = c .before .before in
-    let s = t .before .before .before .before .before .before .before .before in
-    let f = s .pre .0 .0 .fit .filter .takes in
-    let e = s .pre .1 .0 .1 .takes in
-    let n = third (s .args .h .filter .tuning .order) (f .least) (f .most) (t .before .before .before .before .before .before .if1 .left) (t .before .before .before .before .if4 .left) in
-    let k = third (s .args .e .tuning .order) (e .least) (e .most) (t .before .before .if7 .left) (t .if8 .left) in
-    (s .pre .0, ((n, s .pre .1 .0 .0, leads s k), s .pre .1 .1))
+    let s = t .before .before .before .before in
+    let n = filter-third s (t .before .before .before .if1 .left) (t .before .before .if4 .left) in
+    let k = change-third s (t .before .if7 .left) (t .if8 .left) in
+    (s .pre .0, ((n, s .pre .1 .0 .0, refl, refl, leads s k), s .pre .1 .1))
 
 same-length-9 : tie.Need-same-length-9
 same-length-9 c = search needs

@@ -5,6 +5,7 @@ use Prim.Native.Nat.{ℕ, _+_, _-_, _%_, _≤_, _<_}
 use native.Mathlib.Omega.{arith}
 use borrow.Author.Needs.{needs}
 use borrow.Author.Tests.{leb-true, not-false}
+use lib.Dec.{leb}
 use lib.IntN.{ℤ, pos, natAbs, _+ℤ_, _*ℤ_}
 use lib.ListN.{length}
 use Rattle.integer.specs.Rounding.{M, clip}
@@ -35,29 +36,27 @@ use Rattle.loops.proofs.run.run.Statement.{statement}
 use Rattle.loops.proofs.run.run.Tie as tie
 
 abbrev Inv-loop : tie.InvT-loop
-Inv-loop line₀ order coming fed h e from far buffer₀ c at v₀ k₀ u₀ last₀ i₀ line buffer v k u last i =
+Inv-loop line₀ order coming fed h e loss at from far buffer₀ v₀ k₀ u₀ last₀ i₀ line buffer v k u last i =
     Went fed buffer₀ h line₀ buffer
     (afterOf h (record { ran = record { state = v; last = last; done = i }; next = u })) line i
     × (k ≡ productsOf order (h .filter .coefficients) v)
 
 abbrev μ-loop : tie.MeasureT-loop
-μ-loop line₀ order coming fed h e from far buffer₀ c at v₀ k₀ u₀ last₀ i₀ line buffer v k u last i =
+μ-loop line₀ order coming fed h e loss at from far buffer₀ v₀ k₀ u₀ last₀ i₀ line buffer v k u last i =
     length buffer₀ - i
 
 kept-requires : tie.Need-kept-requires Inv-loop μ-loop
-kept-requires c κs =
-    let s = c .before in
-    rw (s .pre .1 .0 .0) (s .pre .0 .0 .fit .filter .takes .most)
+kept-requires c κs = rw (c .pre .1 .0 .0) (c .pre .0 .0 .fit .filter .takes .most)
 
 -- the state of the filter is all that is kept of it
-is-state : (c : tie.After-kept Inv-loop μ-loop) → c .kept .result ≡ c .before .before .args .h .filter .state
+is-state : (c : tie.After-kept Inv-loop μ-loop) → c .kept .result ≡ c .before .args .h .filter .state
 is-state c =
-    let s = c .before .before in
+    let s = c .before in
     kept-self (s .args .h .filter) (s .pre .0 .0 .fit .filter) (s .pre .1 .0 .0) (c .kept .ensures)
 
 of-state-requires : tie.Need-of-state-requires Inv-loop μ-loop
 of-state-requires c κs =
-    let s = c .before .before in
+    let s = c .before in
     let f = s .args .h .filter in
     rw (s .pre .1 .0 .0)
     (subst (λ (v : State). Fed (f .tuning .order) (f .coefficients) v (pos 0)) (sym (is-state c))
@@ -65,21 +64,21 @@ of-state-requires c κs =
 
 kept-requires-2 : tie.Need-kept-requires-2 Inv-loop μ-loop
 kept-requires-2 c κs =
-    let s = c .before .before .before in
+    let s = c .before .before in
     let a = s .args in
-    few (a .h .waiting) (a .coming) (length (a .buffer .now)) (a .h .advance) (a .e) (s .pre .1 .0 .2)
+    few (a .h .waiting) (a .coming) (length (a .buffer .now)) (a .h .advance) (a .e) (s .pre .1 .0 .4)
     (s .pre .0 .0 .fit .waiting)
 
 loop-holds : tie.Need-loop-holds Inv-loop μ-loop
 loop-holds c =
     let j = c .before in
     let q = j .before .before in
-    let s = q .before .before in
+    let s = q .before in
     let h = s .args .h in
     let fit = s .pre .0 .0 .fit in
     let u = j .kept2 .result in
     let n = length (s .args .buffer .now) in
-    let r = rests (h .waiting) (s .args .coming) n (h .advance) (s .args .e) u (s .pre .1 .0 .2) (fit .waiting)
+    let r = rests (h .waiting) (s .args .coming) n (h .advance) (s .args .e) u (s .pre .1 .0 .4) (fit .waiting)
     (j .kept2 .ensures) in (
       started (begins (h .waiting) h (q .kept .result) u refl (is-state q) r (fit .waiting) (fit .at))
           (s .pre .0 .1) (s .pre .0 .0),
@@ -89,7 +88,7 @@ loop-holds c =
 -- where a pass begins, or the loop ends
 module _ (p : tie.At-loop Inv-loop μ-loop) where
   abbrev start : tie.Start Inv-loop μ-loop
-  start = p .before .before .before .before .before .before
+  start = p .before .before .before .before .before
 
   abbrev led : Led
   led = record { ran = record { state = p .loop .v; last = p .loop .last; done = p .loop .i }; next = p .loop .u }
@@ -132,7 +131,7 @@ module _ (c : tie.In-loop Inv-loop μ-loop) where
       subst
       (λ (k : Head). Passed (fedOf (a .fed) 0 b) (stateOf h (a .line .now)) (fedOf (a .fed) (l .i) (l .buffer)) k
       (l .line) (l .i))
-      (still (h .waiting) h (led pass) (a .coming) (length b) (a .e) (first .pre .1 .0 .2) more-left)
+      (still (h .waiting) h (led pass) (a .coming) (length b) (a .e) (first .pre .1 .0 .4) more-left)
       (l .inv .0)
 
   valid : Valid (ranOf h (led pass .ran)) (pass .loop .line)
@@ -205,8 +204,11 @@ carry-requires c κs =
       pass w .loop .inv .1,
     )
 
-is-sample-requires : tie.Need-is-sample-requires Inv-loop μ-loop
-is-sample-requires c κs = search needs
+heard-requires : tie.Need-heard-requires Inv-loop μ-loop
+heard-requires c κs = search needs
+
+is-loud-requires : tie.Need-is-loud-requires Inv-loop μ-loop
+is-loud-requires c κs = c .heard .ensures .1
 
 same-length : tie.Need-same-length Inv-loop μ-loop
 same-length c = same (pass (within (c .before .before .before .before)))
@@ -222,17 +224,19 @@ module _ (c : tie.Else1 Inv-loop μ-loop) where
   abbrev around : tie.In-loop Inv-loop μ-loop
   around = within (took .before)
 
-  y-small : natAbs (took .carry .result .y .n) ≤ M
-  y-small =
-      let s = c .before .is-sample in
-      leb-true (natAbs (took .carry .result .y .n)) M (sym (s .ensures) ∙ not-false (s .result) (c .if1 .left))
+  -- the output
+  abbrev y : ℤ
+  y = c .before .before .heard .result .n
 
-  out-is : clip (took .carry .result .y .n) ≡ out (tapsOf (f around)) (filterOf (f around))
-      (for-filter (took .before) .read .result .n)
+  y-small : natAbs y ≤ M
+  y-small = leb-true (natAbs y) M (not-false (leb (natAbs y) M) (sym (c .before .is-loud .ensures) ∙ c .if1 .left))
+
+  out-is : clip y ≡ out (tapsOf (f around)) (filterOf (f around)) (for-filter (took .before) .read .result .n)
   out-is =
       let a = first around .args in
       let x = for-filter (took .before) .read .result .n in
-      subst
+      c .before .before .heard .ensures .0
+      ∙ subst
       (λ (N : ℕ). clip (took .carry .result .y .n)
       ≡ out (taps N (a .h .filter .coefficients)) (held N (pass around .loop .v)) x)
       (first around .pre .1 .0 .0)
@@ -259,12 +263,13 @@ newest-requires c κs =
     let e = c .before in
     let r = around e in
     let v = valid r .fit in
-    ((r .loop-test .taken, input-small e), (v .loss, y-small e, v .last))
+    let loss = subst (λ (g : ℕ). g ≤ 65535) (sym (first r .pre .1 .0 .2)) (v .loss) in
+    ((r .loop-test .taken, input-small e), (loss, y-small e, v .last))
 
 add-write : tie.Need-add-write Inv-loop μ-loop
 add-write c =
     let r = around (c .before .before .before) in
-    omega (arith, here r, inside r)
+    omega (arith, here r, inside r, first r .pre .1 .0 .3)
 
 write-requires : tie.Need-write-requires Inv-loop μ-loop
 write-requires c κs =
@@ -273,9 +278,8 @@ write-requires c κs =
     let l = pass r .loop in
     let a = first r .args in
     let x = inputOf (a .fed) (l .buffer) (l .i) in
-    let y = took e .carry .result .y .n in
-    let u = (x +ℤ pos 0) +ℤ Q (pos (a .h .loss) *ℤ (y +ℤ l .last .n)) in (
-      omega (arith, c .write-arg .given .0 .1, here r, inside r),
+    let u = (x +ℤ pos 0) +ℤ Q (pos (a .loss) *ℤ (y e +ℤ l .last .n)) in (
+      omega (arith, c .write-arg .given .0 .1, here r, inside r, first r .pre .1 .0 .3),
       subst (λ (z : ℤ). natAbs z ≤ M) (sym (c .before .newest .ensures)) (clip-abs u),
     )
 
@@ -294,7 +298,7 @@ led-requires c κs =
     let r = within t in
     let s = first r .pre .1 in
     let a = first r .args in
-    feeds (h r .waiting) (h r) (led (pass r)) (a .coming) (length (a .buffer .now)) (a .e) (s .0 .2)
+    feeds (h r .waiting) (h r) (led (pass r)) (a .coming) (length (a .buffer .now)) (a .e) (s .0 .4)
     (so-far r .1) (long t) (s .1 .1) (s .1 .3) (more-left r) (t .read2 .ensures)
 
 -- and its eliminator has moved
@@ -320,18 +324,21 @@ loop-again c =
     let x = inputOf (s .fed) (l .buffer) (l .i) in
     let w = b .before .before .before in
     let o = t .carry .ensures in
-    let y = t .carry .result .y in
+    let brought = subst
+    (λ (g : ℕ). w .before .before .newest .result .n
+    ≡ clip ((x +ℤ pos 0) +ℤ Q (pos g *ℤ (y k +ℤ l .last .n))))
+    (p .0 .2) (w .before .before .newest .ensures) in
     let u = c .before .before .led .result in
     let made = taken-circulates (l .line) (at r) (long g) (inside r) (valid r .fit .filter) (place r)
     (for-filter g .read .ensures) (small g) (next-is k) (y-small k) (out-is k) (s .h .loss) (l .last .n) x
-    (w .before .before .newest .ensures) (here r) (on r) (w .write .ensures) in
-    let m = moves (s .h .waiting) (s .h) (led (pass r)) (s .coming) (length (s .buffer .now)) (s .e) u (p .0 .2)
+    brought (ap (λ (n : ℕ). n + l .i) (p .0 .3) ∙ here r) (on r) (w .write .ensures) in
+    let m = moves (s .h .waiting) (s .h) (led (pass r)) (s .coming) (length (s .buffer .now)) (s .e) u (p .0 .4)
     (so-far r .1) (long g) (p .1 .1) (p .1 .3) (more-left r) (g .read2 .ensures)
     (c .before .before .led .ensures) in (
       more (so-far r) (left r) (input-fed (s .fed) (l .buffer) (l .i))
           (goes (s .h .waiting) (s .h) (led (pass r)) u (p .0 .1) made m (so-far r .1))
           (ap (fedOf (s .fed) (l .i + 1)) (b .before .write2 .ensures)
-          ∙ set-fed (s .fed) (l .i) (l .buffer) (y .n) (r .loop-test .taken))
+          ∙ set-fed (s .fed) (l .i) (l .buffer) (y k) (r .loop-test .taken))
           refl,
       o .2,
     )
@@ -357,7 +364,8 @@ run-spec =
     add-read-2
     read-requires-2
     carry-requires
-    is-sample-requires
+    heard-requires
+    is-loud-requires
     same-length
     returns
     newest-requires

@@ -48,27 +48,16 @@ is-product c =
 
 cut-as-requires : tie.Need-cut-as-requires
 cut-as-requires c κs =
-    let z = c .before in
-    let p = z .before in
+    let p = c .before in
     let s = p .before in
-    rw (p .plus .ensures, is-product z)
+    rw (p .plus .ensures, is-product c)
     (omega (arith, sum-small s), omega (arith, u-small s), scale-above (G s) (t s), scale-under (G s) (t s))
 
 returns : tie.Need-returns
 returns c =
-    let z = c .before .before in
+    let z = c .before in
     let e = c .cut-as .ensures ∙ ap Q (is-product z) in
     (e, rw e (kept (z .before .before)))
 
-cut-q17-requires : tie.Need-cut-q17-requires
-cut-q17-requires c κs = search needs
-
-returns-2 : tie.Need-returns-2
-returns-2 c =
-    let z = c .before .before in
-    let e = c .cut-q17 .ensures ∙ ap Q (is-product z) in
-    (e, rw e (kept (z .before .before)))
-
 pub looped-spec : {M : Type 1} → statement M
-looped-spec =
-    tie.close (tie.spec plus-requires scale-requires cut-as-requires returns cut-q17-requires returns-2)
+looped-spec = tie.close (tie.spec plus-requires scale-requires cut-as-requires returns)
