@@ -4,20 +4,20 @@
 #include "bench.h"
 #include "plain.h"
 
-enum { CALLS = 1 + 3 * (SAMPLES / LEAST_WAIT), ADVANCE = 64, LOUDEST = 999 };
+enum { CALLS = 2 + 3 * (SAMPLES / LEAST_WAIT), ADVANCE = 64, QUIET = 999, LOUD = 4194303 };
 
 static uint32_t words[4 * CALLS], numbers[2][CALLS], list_order;
 static size_t count;
-static int32_t silence[SAMPLES], quiet[SAMPLES];
+static int32_t silence[SAMPLES], quiet[SAMPLES], loud[SAMPLES];
 static const int32_t *input;
 
-/* Samples of a fixed sequence, from -999 to 999. */
-static void make_quiet(void)
+/* Samples without a pattern, from -most to most. */
+static void make_noise(int32_t *samples, int32_t most)
 {
     uint32_t state = 1;
     for (size_t i = 0; i < SAMPLES; i++) {
         state = 1664525 * state + 1013904223;
-        quiet[i] = (int32_t)((state >> 8) % (2 * LOUDEST + 1)) - LOUDEST;
+        samples[i] = (int32_t)((state >> 8) % (2 * most + 1)) - most;
     }
 }
 
@@ -33,9 +33,13 @@ void make_list(const Row *r)
     static const uint32_t kinds[] = { 0, JIVASZTE_CALL_ANNOUNCE, JIVASZTE_CALL_INSTANT, JIVASZTE_CALL_ASK };
     list_order = r->order;
     count = 0;
-    make_quiet();
-    input = r->group == FED ? quiet : silence;
-    add(JIVASZTE_CALL_PLUCK, 255, 2048, 0);
+    make_noise(quiet, QUIET);
+    make_noise(loud, LOUD);
+    input = r->group == FED ? quiet : r->group == NOISE ? loud : silence;
+    if (r->group == NOISE)
+        add(JIVASZTE_CALL_LOSS, 0, 0, 0);
+    else
+        add(JIVASZTE_CALL_PLUCK, 255, 2048, 0);
     int other = 1;
     for (size_t done = 0; done + r->wait <= SAMPLES; done += r->wait, other = !other) {
         uint32_t named = other ? r->to : r->order;

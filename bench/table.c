@@ -22,8 +22,9 @@ void make_rows(Row *rows)
             rows = add_rows(rows, SCORE, order, order, change, 0, 2);
     for (uint32_t order = 1; order <= ORDERS; order++)
         rows = add_rows(rows, SILENCE, order, order, NO_CHANGE, 0, 1);
-    for (uint32_t order = 1; order <= ORDERS; order++)
-        rows = add_rows(rows, FED, order, order, NO_CHANGE, 1, 1);
+    for (int group = FED; group <= NOISE; group++)
+        for (uint32_t order = 1; order <= ORDERS; order++)
+            rows = add_rows(rows, group, order, order, NO_CHANGE, 1, 1);
     for (uint32_t order = 1; order <= ORDERS; order++)
         rows = add_rows(rows, ASK, order, order, ASKED_CHANGE, 0, 2);
     for (int change = ANNOUNCED_CHANGE; change <= ASKED_CHANGE; change++)
@@ -57,7 +58,7 @@ static void print_row(const Row *r)
     double ratios[ROUNDS];
     sorted(r, ratios);
     static const char *const changes[] = { "none", "announced", "instant", "asked" };
-    static const char *const by[GROUPS] = { "score", "blocks", "blocks with input", "blocks", "blocks" };
+    static const char *const by[GROUPS] = { "score", "blocks", "blocks with input", "blocks of noise", "blocks", "blocks" };
     printf("| %s | %u", by[r->group], r->order);
     if (r->to != r->order)
         printf(", %u", r->to);
@@ -92,7 +93,7 @@ static void print_least(const Row *rows, int group, int more)
 
 void print_rows(const Row *rows)
 {
-    static const char *const names[GROUPS] = { "scores", "blocks with no change", "blocks with input",
+    static const char *const names[GROUPS] = { "scores", "blocks with no change", "blocks with input", "blocks of noise",
                                                "blocks with an asked change", "blocks with changes of the order" };
     printf("| by | order | changes | wait | C, million samples a second | proved | ratio | in the rounds | "
            "bytes of stack | all agree |\n");

@@ -10,10 +10,10 @@ ghost use Rattle.thiran.specs.Coefficients.{norm};
 ghost use Rattle.thiran.specs.Answers.{taps};
 ghost use Rattle.allpass.specs.Products.{scaledOf, lastOf, turnedOf, cutOf};
 use integer::Value;
-use integer::arithmetic::more;
 use integer::arithmetic::plus;
 use integer::arithmetic::times;
 use integer::signs::cut_product;
+use integer::toward::more;
 use thiran::formula::Coefficients;
 
 // A1, A2 and A3 times a number; 0 past the order.
@@ -92,7 +92,7 @@ fn foremost(order: u32, x: Multiples) -> Value
 
 // vN + R(AN·w + .. + A1·v(N−1)), which is y before it is clipped: turned is that sum but for AN·w, and made is R of it
 // in order 1.
-pub fn output(order: u32, v: Value, x: Multiples, turned: Value, made: Value) -> Value
+pub fn output(order: u32, noisy: bool, v: Value, x: Multiples, turned: Value, made: Value) -> Value
     requires { ⌜ (order ≡ 1 → made .n ≡ R (lastOf order x +ℤ turned .n)) × (natAbs (v .n) ≤ 2 ^ 42)
         × (natAbs (lastOf order x) ≤ 2 ^ 41) × (natAbs (turned .n) ≤ 2 ^ 41) ⌝ }
     ensures { λ y. ⌜ y .n ≡ v .n +ℤ R (lastOf order x +ℤ turned .n) ⌝ }
@@ -100,5 +100,5 @@ pub fn output(order: u32, v: Value, x: Multiples, turned: Value, made: Value) ->
     if order == 1 {
         return plus(v, made);
     }
-    more(v, plus(foremost(order, x), turned))
+    more(noisy, v, plus(foremost(order, x), turned))
 }

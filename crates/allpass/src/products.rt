@@ -19,8 +19,8 @@ use crate::multiples::output;
 use crate::multiples::quotient;
 use crate::multiples::scaled;
 use integer::Value;
-use integer::arithmetic::less;
 use integer::arithmetic::plus;
+use integer::toward::less;
 use thiran::formula::Coefficients;
 
 // Of a state v1, v2, v3: newest is A1·v1, older A2·v2 + A3·v3, next A2·v1 + A3·v2, third A3·v1; turned is what
@@ -64,14 +64,14 @@ fn third(order: u32, v: State) -> Value
 }
 
 // w.
-fn entered(order: u32, c: Coefficients, v: State, k: Products, f: Value) -> Value
+fn entered(order: u32, noisy: bool, c: Coefficients, v: State, k: Products, f: Value) -> Value
     requires { ⌜ Fed order c v (f .n) × (k ≡ productsOf order c v) ⌝ }
     ensures { λ w. ⌜ w .n ≡ Inner (taps order c) (held order v) (f .n) ⌝ }
 {
     if order == 1 {
         return inner(order, c, v, Value { n: k.cut }, f);
     }
-    less(f, plus(Value { n: k.newest }, Value { n: k.older }))
+    less(noisy, f, plus(Value { n: k.newest }, Value { n: k.older }))
 }
 
 // Those of the next state, whose w has the products x.
@@ -133,18 +133,19 @@ pub fn of_state(order: u32, c: Coefficients, v: State) -> Products
     joined(order, c, Value { n: v.v1 }, x, y, z)
 }
 
-// One sample of the filter, where k has the products of v.
-pub fn carry(order: u32, c: Coefficients, v: State, k: Products, f: Value) -> Carried
+// One sample of the filter, where k has the products of v; R as is best where noise may come, or where it does not.
+pub fn carry(order: u32, noisy: bool, c: Coefficients, v: State, k: Products, f: Value) -> Carried
     requires { ⌜ Fed order c v (f .n) × (k ≡ productsOf order c v) ⌝ }
     ensures { λ t. ⌜ (Clip (t .y .n) ≡ out (taps order c) (held order v) (f .n))
         × (t .state ≡ stored (next (taps order c) (held order v) (f .n)))
         × (t .products ≡ productsOf order c (t .state)) ⌝ }
 {
-    let w = entered(order, c, v, k, f);
+    let w = entered(order, noisy, c, v, k, f);
     let x = scaled(order, c, w);
     let n = renewed(order, c, w, k, x);
     let y = output(
         order,
+        noisy,
         oldest(order, v),
         x,
         Value { n: k.turned },

@@ -11,10 +11,10 @@ use crate::filter::weighed;
 use crate::products::carry;
 use crate::products::of_state;
 use integer::Value;
-use integer::arithmetic::less;
 use integer::arithmetic::times;
 use integer::clip;
 use integer::signs::cut_product;
+use integer::toward::less;
 use thiran::formula::Coefficients;
 
 // y is the output, and state the next state.
@@ -29,7 +29,7 @@ pub fn allpass(order: u32, c: Coefficients, v: State, f: Value) -> Filtered
     ensures { λ r. ⌜ (r .y .n ≡ out (taps order c) (held order v) (f .n))
         × (r .state ≡ stored (next (taps order c) (held order v) (f .n))) ⌝ }
 {
-    let t = carry(order, c, v, of_state(order, c, v), f);
+    let t = carry(order, true, c, v, of_state(order, c, v), f);
     let s = t.state;
     Filtered {
         y: clip(t.y),
@@ -37,8 +37,8 @@ pub fn allpass(order: u32, c: Coefficients, v: State, f: Value) -> Filtered
     }
 }
 
-// w of the eliminator: R by the signs of two factors in order 1, else by that of the sum, as in the filter.
-fn entering(order: u32, c: Coefficients, v: State, f: Value) -> Value
+// w of the eliminator, with R as the filter has it: by the signs of two factors in order 1, else by that of the sum.
+fn entering(order: u32, noisy: bool, c: Coefficients, v: State, f: Value) -> Value
     requires { ⌜ Fed order c v (f .n) ⌝ }
     ensures { λ w. ⌜ w .n ≡ Inner (taps order c) (held order v) (f .n) ⌝ }
 {
@@ -47,14 +47,14 @@ fn entering(order: u32, c: Coefficients, v: State, f: Value) -> Value
         let x = Value { n: v.v1 };
         return inner(order, c, v, cut_product(a, x, times(a, x)), f);
     }
-    less(f, weighed(order, c, v))
+    less(noisy, f, weighed(order, c, v))
 }
 
 // One sample of the eliminator: the next state.
-pub fn eliminate(order: u32, c: Coefficients, v: State, f: Value) -> State
+pub fn eliminate(order: u32, noisy: bool, c: Coefficients, v: State, f: Value) -> State
     requires { ⌜ Fed order c v (f .n) ⌝ }
     ensures { λ r. ⌜ r ≡ stored (next (taps order c) (held order v) (f .n)) ⌝ }
 {
-    let w = entering(order, c, v, f);
+    let w = entering(order, noisy, c, v, f);
     shifted(order, v, w)
 }

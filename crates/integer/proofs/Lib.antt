@@ -4,4 +4,4 @@ pub mod Rounding
 pub mod Cut
 pub mod Sides
 mod Quotient
-mod Less
+mod Either

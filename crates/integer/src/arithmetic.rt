@@ -1,11 +1,9 @@
-// Operations on numbers that are small enough, one or two in each function. `less` and `more` take R of a sum by
-// two ways, of which the sum's sign tells one: so different that LLVM keeps a branch, which mostly is foreseen.
+// Operations on numbers that are small enough, one or two in each function.
 ghost use mathlib.Core.Path.{_≡_};
 ghost use Prim.Native.Nat.{_≤_, _^_};
 ghost use lib.IntN.{pos, natAbs, _+ℤ_, _-ℤ_, _*ℤ_};
 ghost use lib.Signed.{ltZ};
 ghost use Rattle.integer.specs.Rounding.{floor};
-ghost use Rattle.integer.specs.Cut.{R};
 use crate::Value;
 
 pub fn times(a: Value, x: Value) -> Value
@@ -51,30 +49,8 @@ pub fn floor_q17(u: Value) -> Value
     Value { n: u.n >> 17 }
 }
 
-fn is_below_zero(u: Value) -> bool
+pub fn is_below_zero(u: Value) -> bool
     ensures { λ r. ⌜ r ≡ ltZ (u .n) (pos 0) ⌝ }
 {
     u.n < 0
-}
-
-// f − R(u).
-pub fn less(f: Value, u: Value) -> Value
-    requires { ⌜ (natAbs (f .n) ≤ 2 ^ 42) × (natAbs (u .n) ≤ 2 ^ 42) ⌝ }
-    ensures { λ r. ⌜ r .n ≡ f .n -ℤ R (u .n) ⌝ }
-{
-    if is_below_zero(u) {
-        return plus(f, floor_q16(minus(Value { n: 0 }, u)));
-    }
-    minus(f, floor_q16(u))
-}
-
-// f + R(u).
-pub fn more(f: Value, u: Value) -> Value
-    requires { ⌜ (natAbs (f .n) ≤ 2 ^ 42) × (natAbs (u .n) ≤ 2 ^ 42) ⌝ }
-    ensures { λ r. ⌜ r .n ≡ f .n +ℤ R (u .n) ⌝ }
-{
-    if is_below_zero(u) {
-        return minus(f, floor_q16(minus(Value { n: 0 }, u)));
-    }
-    plus(f, floor_q16(u))
 }

@@ -1,5 +1,5 @@
-// R and the loop's division of a product whose sign is known before it: bits of the sign are added, and it is shifted
-// downward. Between a number of the filter and the next one there is then no choice.
+// R and the loop's division by bits of the sign, which are added before a shift downward: so there is no choice. The
+// sign of a product is known before it, by that of its factors.
 ghost use mathlib.Core.Path.{_≡_};
 ghost use mathlib.Core.Bool.{cond, not};
 ghost use Prim.Native.Nat.{_≤_, _^_};
@@ -40,6 +40,14 @@ fn apart(a: Value, w: Value) -> Value
     let p = bits_q16(a);
     let q = bits_q16(w);
     Value { n: p.n ^ q.n }
+}
+
+// R(u).
+pub fn cut(u: Value) -> Value
+    requires { ⌜ natAbs (u .n) ≤ 2 ^ 42 ⌝ }
+    ensures { λ r. ⌜ r .n ≡ R (u .n) ⌝ }
+{
+    floor_q16(plus(u, bits_q16(u)))
 }
 
 // R(m), where m is a·w.

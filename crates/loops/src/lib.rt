@@ -11,16 +11,13 @@ ghost use Rattle.voice.specs.Valid.{Valid};
 ghost use Rattle.loops.specs.Carried.{afterOf, kindIn, Lasts};
 ghost use Rattle.loops.specs.Fed.{fedOf, inputOf};
 ghost use Rattle.loops.specs.Rendered.{Went};
-use crate::orders::by_order;
-use crate::orders::by_order_fed;
-use crate::orders::by_orders;
-use crate::run::run;
 use allpass::State;
 use integer::Value;
 use voice::Filter;
 use voice::Head;
 
 pub mod carried;
+mod inputs;
 mod orders;
 pub mod plucked;
 mod run;
@@ -65,13 +62,12 @@ pub fn while_idle(line: &mut [i32; 2112], fed: bool, h: Head, buffer: &mut [i32]
 {
     let from = line::place(h.at, h.filter.tuning.length as usize);
     if fed {
-        return by_order_fed(line, h, from, buffer);
+        return inputs::by_order(line, h, from, buffer);
     }
-    by_order(line, h, from, buffer)
+    orders::by_order(line, h, from, buffer)
 }
 
-// Renders samples of the buffer while a change waits; an announced one may take effect at the last. Where something
-// comes in, one loop serves all orders.
+// Renders samples of the buffer while a change waits; an announced one may take effect at the last.
 pub fn while_waiting(
     line: &mut [i32; 2112],
     fed: bool,
@@ -91,9 +87,7 @@ pub fn while_waiting(
     let from = line::place(h.at, h.filter.tuning.length as usize);
     let far = line::place(h.at, e.tuning.length as usize);
     if fed {
-        let n = h.filter.tuning.order;
-        let k = e.tuning.order;
-        return run(line, n, k, true, h, e, h.loss, h.at, from, far, buffer);
+        return inputs::by_orders(line, h, e, from, far, buffer);
     }
-    by_orders(line, h, e, from, far, buffer)
+    orders::by_orders(line, h, e, from, far, buffer)
 }

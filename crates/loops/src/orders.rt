@@ -1,7 +1,7 @@
-// A loop that is called with a number for its order is compiled for that order: for the filter's, for that of a change
-// that waits, 0 where nothing does, and for whether anything comes in. A loop that asks at each sample is slower.
+// A loop that is called with a number for its order is compiled for that order: for the filter's, and for that of a
+// change that waits, 0 where nothing does. Here nothing comes in; `inputs` has the loops for what does.
 ghost use mathlib.Core.Path.{_≡_};
-ghost use mathlib.Core.Bool.{true, false};
+ghost use mathlib.Core.Bool.{false};
 ghost use Prim.Native.Nat.{_+_, _-_, _%_, _≤_};
 ghost use lib.ListN.{length};
 ghost use Rattle.integer.specs.Rounding.{M};
@@ -36,27 +36,6 @@ pub fn by_order(line: &mut [i32; 2112], h: Head, from: usize, buffer: &mut [i32]
         return run(line, 2, 0, false, h, h.filter, g, at, from, from, buffer);
     }
     run(line, 3, 0, false, h, h.filter, g, at, from, from, buffer)
-}
-
-// The same where the buffer is what comes in.
-pub fn by_order_fed(line: &mut [i32; 2112], h: Head, from: usize, buffer: &mut [i32]) -> Led
-    requires { ⌜ Valid h (now line) × (loudest (fedOf true 0 (now buffer)) ≤ M) ⌝ }
-    requires { ⌜ (h .waiting ≡ Idle) × (h .pluck .left ≡ 0) ⌝ }
-    requires { ⌜ (from ≡ (h .at + 2112 - h .filter .tuning .length) % 2112)
-        × Apart (h .at) (h .filter .tuning .length) (length (now buffer)) ⌝ }
-    ensures { λ r. ⌜ Went true (now (buffer .entry)) h (now (line .entry)) (now (buffer .exit)) (afterOf h r)
-        (now (line .exit)) (r .ran .done) ⌝ }
-{
-    let g = h.loss;
-    let at = h.at;
-    let n = h.filter.tuning.order;
-    if n == 1 {
-        return run(line, 1, 0, true, h, h.filter, g, at, from, from, buffer);
-    }
-    if n == 2 {
-        return run(line, 2, 0, true, h, h.filter, g, at, from, from, buffer);
-    }
-    run(line, 3, 0, true, h, h.filter, g, at, from, from, buffer)
 }
 
 // Renders samples of the buffer where nothing comes in, while a change waits, by the loop of both orders, that of the

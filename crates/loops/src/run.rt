@@ -71,14 +71,14 @@ fn is_loud(order: u32, y: Value) -> bool
 }
 
 // The next state of an eliminator that takes g; u where none runs.
-fn led(coming: u32, c: Coefficients, u: State, g: Value) -> State
+fn led(coming: u32, fed: bool, c: Coefficients, u: State, g: Value) -> State
     requires { ⌜ (1 ≤ coming → Fed coming c u (g .n)) ⌝ }
     ensures { λ r. ⌜ (1 ≤ coming → r ≡ stored (next (taps coming c) (held coming u) (g .n))) ⌝ }
 {
     if coming == 0 {
         return u;
     }
-    eliminate(coming, c, u, g)
+    eliminate(coming, fed, c, u, g)
 }
 
 // Renders samples of the buffer. loss and at are those of h, handed in so that LLVM compiles the loop into its
@@ -115,7 +115,7 @@ pub fn run(
     while i < buffer.len() {
         let x = samples::read(line, from + i);
         let g = samples::read(line, far + i);
-        let t = carry(order, h.filter.coefficients, v, k, x);
+        let t = carry(order, fed, h.filter.coefficients, v, k, x);
         let y = heard(order, t.y);
         if is_loud(order, y) {
             let r = Ran {
@@ -128,7 +128,7 @@ pub fn run(
         let s = newest(fed, buffer, i, loss, y, last);
         samples::write(line, at + i, s);
         samples::write(buffer, i, y);
-        let n = led(coming, e.coefficients, u, g);
+        let n = led(coming, fed, e.coefficients, u, g);
         v = t.state;
         k = t.products;
         u = n;

@@ -10,8 +10,8 @@ cast-place c = search needs
 place-requires : tie.Need-place-requires
 place-requires c κs = search needs
 
-by-order-fed-requires : tie.Need-by-order-fed-requires
-by-order-fed-requires c κs =
+by-order-requires : tie.Need-by-order-requires
+by-order-requires c κs =
     let t = c .before .before in
     let p = t .before in
     let s = p .before .before in
@@ -21,10 +21,10 @@ same-length : tie.Need-same-length
 same-length c = search needs
 
 returns : tie.Need-returns
-returns c = rw (c .before .before .before .before .if1 .taken) (c .before .by-order-fed .ensures)
+returns c = rw (c .before .before .before .before .if1 .taken) (c .before .by-order .ensures)
 
-by-order-requires : tie.Need-by-order-requires
-by-order-requires c κs =
+by-order-requires-2 : tie.Need-by-order-requires-2
+by-order-requires-2 c κs =
     let t = c .before .before in
     let p = t .before in
     let s = p .before .before in
@@ -34,7 +34,7 @@ same-length-2 : tie.Need-same-length-2
 same-length-2 c = search needs
 
 returns-2 : tie.Need-returns-2
-returns-2 c = rw (c .before .before .before .before .if1 .left) (c .before .by-order .ensures)
+returns-2 c = rw (c .before .before .before .before .if1 .left) (c .before .by-order2 .ensures)
 
 pub while-idle-spec : {M : Type 1} → statement M
 while-idle-spec =
@@ -42,9 +42,9 @@ while-idle-spec =
     (tie.spec
     cast-place
     place-requires
-    by-order-fed-requires
+    by-order-requires
     same-length
     returns
-    by-order-requires
+    by-order-requires-2
     same-length-2
     returns-2)

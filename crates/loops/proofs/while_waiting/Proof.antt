@@ -39,15 +39,15 @@ leads s =
     (sym (s .pre .1 .0)) (refl, refl, s .pre .0 .2)
 
 -- ---- something comes in
-run-requires : tie.Need-run-requires
-run-requires c κs =
+by-orders-requires : tie.Need-by-orders-requires
+by-orders-requires c κs =
     let t = c .before .before in
     let far = t .before in
     let from = far .before .before in
     let s = from .before .before in (
       (s .pre .0 .0, rw (t .if1 .taken) at (s .pre .0 .1)),
       (
-        (refl, s .pre .1 .1, refl, refl, leads s),
+        (s .pre .1 .1, waits s .tuned, leads s),
         (from .place .ensures, far .place2 .ensures, s .pre .1 .2, s .pre .1 .3),
       ),
     )
@@ -56,11 +56,11 @@ same-length : tie.Need-same-length
 same-length c = search needs
 
 returns : tie.Need-returns
-returns c = rw (c .before .before .before .before .if1 .taken) (c .before .run .ensures)
+returns c = rw (c .before .before .before .before .if1 .taken) (c .before .by-orders .ensures)
 
 -- ---- nothing comes in
-by-orders-requires : tie.Need-by-orders-requires
-by-orders-requires c κs =
+by-orders-requires-2 : tie.Need-by-orders-requires-2
+by-orders-requires-2 c κs =
     let t = c .before .before in
     let far = t .before in
     let from = far .before .before in
@@ -76,7 +76,7 @@ same-length-2 : tie.Need-same-length-2
 same-length-2 c = search needs
 
 returns-2 : tie.Need-returns-2
-returns-2 c = rw (c .before .before .before .before .if1 .left) (c .before .by-orders .ensures)
+returns-2 c = rw (c .before .before .before .before .if1 .left) (c .before .by-orders2 .ensures)
 
 pub while-waiting-spec : {M : Type 1} → statement M
 while-waiting-spec =
@@ -86,9 +86,9 @@ while-waiting-spec =
     place-requires
     cast-place-2
     place-requires-2
-    run-requires
+    by-orders-requires
     same-length
     returns
-    by-orders-requires
+    by-orders-requires-2
     same-length-2
     returns-2)

@@ -1,12 +1,12 @@
--- `loops::orders::by_order_fed` meets its contract: the filter's order is 1, 2 or 3.
+-- `loops::inputs::by_order` meets its contract: the filter's order is 1, 2 or 3.
 -- Assumes nothing.
 use mathlib.Core.Path.{refl, sym}
 use borrow.Author.Needs.{needs}
 use lib.ListN.{length}
 use Rattle.loops.specs.Carried.{Leads}
 use Rattle.loops.proofs.Leading.{none-leads, third}
-use Rattle.loops.proofs.orders.by_order_fed.Statement.{statement}
-use Rattle.loops.proofs.orders.by_order_fed.Tie as tie
+use Rattle.loops.proofs.inputs.by_order.Statement.{statement}
+use Rattle.loops.proofs.inputs.by_order.Tie as tie
 
 idle : (s : tie.Start)
     → Leads (s .args .h .waiting) 0 (s .args .h .filter) (length (s .args .buffer .now)) (s .args .h .advance)
@@ -58,8 +58,8 @@ same-length-3 c = search needs
 returns-3 : tie.Need-returns-3
 returns-3 c = search needs
 
-pub by-order-fed-spec : {M : Type 1} → statement M
-by-order-fed-spec =
+pub by-order-spec : {M : Type 1} → statement M
+by-order-spec =
     tie.close
     (tie.spec
     run-requires
