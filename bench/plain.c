@@ -8,9 +8,9 @@
 
 /* A sum is cut toward zero in one of these forms: a division, of which a compiler makes a conditional move; the bits of
    its sign, which are 65,535 or 131,071 below 0, and a shift; the bits of the sign of a number on the same side of 0; a
-   branch by its sign, or by the signs of its factors; a choice or a branch between two differences, of which one alone
-   waits for the newest product. */
-typedef enum { DIVISION, BITS, BITS_BEFORE, BRANCH, BRANCH_BEFORE, CHOICE, SPLIT } Form;
+   branch by its sign, or by the signs of its factors; a choice between two differences, of which one alone waits for
+   the newest product, by the sum's sign or by that of a factor, or a branch between them. */
+typedef enum { DIVISION, BITS, BITS_BEFORE, BRANCH, BRANCH_BEFORE, CHOICE, CHOICE_BEFORE, SPLIT } Form;
 
 /* The forms of w, of the output, of the loop and of an eliminator's w. */
 typedef struct {
@@ -21,14 +21,18 @@ typedef struct {
 INLINE Forms forms_of(uint32_t order, int waits)
 {
 #ifdef __clang__
-    static const Forms alone[] = { { BRANCH, BRANCH, DIVISION, 0 }, { SPLIT, BRANCH, BITS_BEFORE, 0 },
+    static const Forms alone[] = { { SPLIT, BRANCH, DIVISION, 0 },
+                                   { SPLIT, BRANCH, BITS_BEFORE, 0 },
                                    { BRANCH, BRANCH, BITS_BEFORE, 0 } };
-    static const Forms beside[] = { { BRANCH_BEFORE, BRANCH, DIVISION, BITS }, { BRANCH, BRANCH, BITS_BEFORE, CHOICE },
-                                    { BRANCH, BRANCH, DIVISION, BRANCH } };
+    static const Forms beside[] = { { BRANCH_BEFORE, 0, DIVISION, BRANCH },
+                                    { BRANCH, BRANCH, BITS_BEFORE, BRANCH },
+                                    { BRANCH, BRANCH, BITS_BEFORE, BRANCH } };
 #else
-    static const Forms alone[] = { { BRANCH_BEFORE, BRANCH, BRANCH, 0 }, { SPLIT, BITS, DIVISION, 0 },
-                                   { CHOICE, BRANCH, BRANCH, 0 } };
-    static const Forms beside[] = { { BRANCH_BEFORE, BRANCH, BRANCH, CHOICE }, { SPLIT, DIVISION, BRANCH, CHOICE },
+    static const Forms alone[] = { { CHOICE_BEFORE, BITS, BITS, 0 },
+                                   { CHOICE, DIVISION, DIVISION, 0 },
+                                   { DIVISION, DIVISION, DIVISION, 0 } };
+    static const Forms beside[] = { { BRANCH_BEFORE, 0, BRANCH, CHOICE },
+                                    { CHOICE, DIVISION, DIVISION, CHOICE },
                                     { DIVISION, DIVISION, DIVISION, BITS } };
 #endif
     return (waits ? beside : alone)[order - 1];
@@ -45,7 +49,11 @@ INLINE int64_t clip(int64_t u)
 /* f less (q + m) / 65,536, cut. */
 INLINE int64_t less(Form form, int64_t f, int64_t q, int64_t m)
 {
+    if (form == DIVISION)
+        return f - (m + q) / 65536;
     int64_t u = q + m, p = 65536 * f - q;
+    if (form == BITS)
+        return f - ((u + (int64_t)((uint64_t)u >> 48)) >> 16);
     if (form == CHOICE)
         return (u < 0 ? p - m : p + 65535 - m) >> 16;
     if (form == SPLIT) {
@@ -53,23 +61,21 @@ INLINE int64_t less(Form form, int64_t f, int64_t q, int64_t m)
             return (p - m) >> 16;
         return -((m - p) >> 16);
     }
-    if (form == BRANCH) {
-        if (u < 0)
-            return f + (-u >> 16);
-        return f - (u >> 16);
-    }
-    return f - (form == BITS ? (u + (int64_t)((uint64_t)u >> 48)) >> 16 : u / 65536);
+    if (u < 0)
+        return f + (-u >> 16);
+    return f - (u >> 16);
 }
 
 /* v and u / 65,536, cut. */
 INLINE int64_t more(Form form, int64_t v, int64_t u)
 {
-    if (form == BRANCH) {
-        if (u < 0)
-            return v - (-u >> 16);
-        return v + (u >> 16);
-    }
-    return v + (form == BITS ? (u + (int64_t)((uint64_t)u >> 48)) >> 16 : u / 65536);
+    if (form == DIVISION)
+        return v + u / 65536;
+    if (form == BITS)
+        return v + ((u + (int64_t)((uint64_t)u >> 48)) >> 16);
+    if (u < 0)
+        return v - (-u >> 16);
+    return v + (u >> 16);
 }
 
 /* a * w / 65,536, cut by the signs of the two factors, and v more that. */
@@ -88,15 +94,14 @@ INLINE int64_t quotient(int64_t a, int64_t w, int64_t v, int64_t *sum)
 /* g * t / 131,072, cut: what the loop brings back. */
 INLINE int64_t back(Form form, int64_t g, int64_t t)
 {
-    if (form == BRANCH) {
-        if (t < 0)
-            return -((g * -t) >> 17);
-        return (g * t) >> 17;
-    }
-    int64_t z = g * t;
+    const int64_t z = g * t;
     if (form == DIVISION)
         return z / 131072;
-    return (z + (int64_t)((uint64_t)(form == BITS ? z : t) >> 47)) >> 17;
+    if (form != BRANCH)
+        return (z + (int64_t)((uint64_t)(form == BITS ? z : t) >> 47)) >> 17;
+    if (t < 0)
+        return -((g * -t) >> 17);
+    return z >> 17;
 }
 
 static inline uint32_t least(uint32_t a, uint32_t b) { return a < b ? a : b; }
@@ -122,20 +127,27 @@ stretch(Voice *v, const int32_t *restrict in, int32_t *restrict out, uint32_t n,
     const int made = order == 1 && form.w == BRANCH_BEFORE;
     int64_t m = made ? a1 * v1 / 65536 : a1 * v1, m2 = a1 * v2, t = a2 * v1, u = a3 * v1, u2 = a3 * v2;
     int64_t q = order == 2 ? a2 * v2 : a2 * v2 + a3 * v3;
+    /* What is added where v1 is below 0, and where it is not, so that a difference is cut by the sign of a1 * v1. */
+    const int64_t below = a1 < 0 ? 65535 : 0, above = 65535 - below;
     for (uint32_t i = 0; i < n; i++) {
         int64_t w, y, s;
-        if (made) {
+        if (order == 1 && form.w == CHOICE_BEFORE) {
+            w = (65536 * (int64_t)from[i] + (v1 < 0 ? below : above) - m) >> 16;
+            m = a1 * w;
+            y = clip(more(form.y, v1, m));
+        } else if (made) {
             w = from[i] - m;
             m = quotient(a1, w, v1, &y);
+            y = clip(y);
         } else if (order == 1) {
             w = less(form.w, from[i], 0, m);
             m = a1 * w;
-            y = more(form.y, v1, m);
+            y = clip(more(form.y, v1, m));
         } else if (order == 2) {
             w = less(form.w, from[i], q, m);
             q = t;
             t = a2 * w;
-            y = more(form.y, v2, t + m);
+            y = clip(more(form.y, v2, t + m));
             m = a1 * w;
             v2 = v1;
         } else {
@@ -143,7 +155,7 @@ stretch(Voice *v, const int32_t *restrict in, int32_t *restrict out, uint32_t n,
             q = t + u2;
             u2 = u;
             u = a3 * w;
-            y = more(form.y, v3, u + (t + m2));
+            y = clip(more(form.y, v3, u + (t + m2)));
             m2 = m;
             m = a1 * w;
             t = a2 * w;
@@ -151,11 +163,9 @@ stretch(Voice *v, const int32_t *restrict in, int32_t *restrict out, uint32_t n,
             v2 = v1;
         }
         v1 = w;
-        y = clip(y);
         if (coming) {
-            int64_t e = coming == 1 ? less(e_form, ahead[i], 0, b1 * e1)
-                : coming == 2       ? less(e_form, ahead[i], b2 * e2, b1 * e1)
-                                    : less(e_form, ahead[i], b2 * e2 + b3 * e3, b1 * e1);
+            const int64_t older = coming == 1 ? 0 : coming == 2 ? b2 * e2 : b2 * e2 + b3 * e3;
+            const int64_t e = less(e_form, ahead[i], older, b1 * e1);
             e3 = e2;
             e2 = e1;
             e1 = e;
