@@ -48,8 +48,7 @@ fn newest(fed: bool, buffer: &[i32], i: usize, loss: u32, y: Value, last: Value)
     b
 }
 
-// y(n) as the loop has it: order 1 clips it. LLVM makes a branch of that in order 1 alone, where it is faster than
-// to stop.
+// y(n) as the loop has it: order 1 clips it, which was faster there, and there alone, than to stop.
 fn heard(order: u32, y: Value) -> Value
     ensures { λ r. ⌜ (Clip (r .n) ≡ Clip (y .n)) × (order ≡ 1 → natAbs (r .n) ≤ M) ⌝ }
 {
@@ -81,9 +80,9 @@ fn led(coming: u32, fed: bool, c: Coefficients, u: State, g: Value) -> State
     eliminate(coming, fed, c, u, g)
 }
 
-// Renders samples of the buffer. loss and at are those of h, handed in so that LLVM compiles the loop into its
-// caller, once for each order; from and far are the places that the filter and an eliminator e read at first; coming
-// is the order of e, or 0 where nothing waits. An announced change does not take effect before the end.
+// Renders samples of the buffer. loss and at are those of h: a loop with more parameters costs LLVM less to compile
+// into its caller. from and far are the places that the filter and an eliminator e read at first; coming is the order
+// of e, or 0 where nothing waits. An announced change does not take effect before the end.
 pub fn run(
     line: &mut [i32; 2112],
     order: u32,
