@@ -17,7 +17,7 @@ use Rattle.integer.proofs.Rounding.{floor-only}
 use Rattle.integer.proofs.Cut.{cutv, R-abs}
 
 -- each part of u is 65,536 times that of R(u), and less than 65,536 more
-sized : (u : ℤ)
+pub sized : (u : ℤ)
     → (65536 * up (R u) ≤ up u) × (up u < 65536 * up (R u) + 65536)
     × (65536 * dn (R u) ≤ dn u) × (dn u < 65536 * dn (R u) + 65536)
 unfolding R

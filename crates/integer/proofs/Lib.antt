@@ -5,3 +5,4 @@ pub mod Cut
 pub mod Sides
 mod Quotient
 mod Either
+mod Ahead

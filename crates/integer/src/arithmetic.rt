@@ -35,6 +35,15 @@ pub fn scale(g: u32, x: Value) -> Value
     times(Value { n: g as i64 }, x)
 }
 
+// x, through 32 bits and back. LLVM then has a number of its own for what a loop starts with, and keeps it in a register.
+pub fn narrowed(x: Value) -> Value
+    requires { ⌜ natAbs (x .n) ≤ 2 ^ 24 ⌝ }
+    ensures { λ r. ⌜ r .n ≡ x .n ⌝ }
+{
+    let y = x.n as i32;
+    Value { n: y as i64 }
+}
+
 // u / 65,536 downward.
 pub fn floor_q16(u: Value) -> Value
     ensures { λ r. ⌜ r .n ≡ floor (u .n) 65536 ⌝ }

@@ -2,11 +2,13 @@
 -- what waits. Assumes nothing.
 use mathlib.Core.Path.{_≡_, refl, sym, ap, subst, _∙_}
 use mathlib.Core.List.{List}
-use Prim.Native.Nat.{ℕ, suc, _+_, _%_, _≤_, _<_, min}
+use Prim.Native.Nat.{ℕ, suc, _+_, _*_, _%_, _≤_, _<_, min}
 use native.Mathlib.Omega.{arith}
 use lib.IntN.{ℤ, pos}
 use Rattle.integer.specs.declared.Value.{Value}
+use Rattle.integer.specs.Rounding.{M}
 use Rattle.allpass.specs.declared.State.{State}
+use Rattle.allpass.specs.Bounds.{Within, none}
 use Rattle.allpass.specs.Stored.{held, stored}
 use Rattle.line.specs.Ring.{ring}
 use Rattle.rule.specs.State.{back}
@@ -19,7 +21,7 @@ use Rattle.voice.specs.Valid.{Tuned, Waiting-valid, Valid}
 use Rattle.step.specs.Sample.{Moved, Circulates, Steps}
 use Rattle.loops.specs.declared.Led.{Led}
 use Rattle.loops.specs.Carried.{anewOf, carriedOf, ranOf, goneOf, Leads}
-use Rattle.loops.proofs.Carrying.{anew-self, kept-self, carried-self, quiet-steps, led-steps}
+use Rattle.loops.proofs.Carrying.{anew-self, keeps, kept-self, carried-self, quiet-steps, led-steps}
 use Rattle.loops.proofs.Carrying.{due-later, due-self, due-as}
 
 -- ---- which loop it is
@@ -42,11 +44,11 @@ abbrev pub Rests : Waiting → State → Type 0
 Rests Idle u = Unit {0}
 Rests (Prepared k d t) u = u ≡ d .state
 
-pub few : (W : Waiting) (K n a : ℕ) (e : Filter) → Leads W K e n a → Waiting-valid a W → K ≤ 3
-few Idle K n a e l w = omega (arith, l)
-few (Prepared k d t) K n a e l w =
-    let m = subst (λ (f : Filter). Tuned f) (l .1) (w .tuned) .takes .most in
-    rw (l .0) m
+-- what is asked where its numbers are kept
+pub keeps-ahead : (W : Waiting) (K n a : ℕ) (e : Filter) → Leads W K e n a → Waiting-valid a W
+    → (K ≤ 3) × Within (2 * M) (held K (e .state))
+keeps-ahead Idle K n a e l w = rw l (omega arith, none)
+keeps-ahead (Prepared k d t) K n a e l w = keeps e (subst (λ (f : Filter). Tuned f) (l .1) (w .tuned)) (l .0)
 
 pub rests : (W : Waiting) (K n a : ℕ) (e : Filter) (u : State) → Leads W K e n a → Waiting-valid a W
     → u ≡ stored (held K (e .state)) → Rests W u

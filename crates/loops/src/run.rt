@@ -82,7 +82,8 @@ fn led(coming: u32, fed: bool, c: Coefficients, u: State, g: Value) -> State
 
 // Renders samples of the buffer. loss and at are those of h: a loop with more parameters costs LLVM less to compile
 // into its caller. from and far are the places that the filter and an eliminator e read at first; coming is the order
-// of e, or 0 where nothing waits. An announced change does not take effect before the end.
+// of e, or 0 where nothing waits. An announced change does not take effect before the end. w is split in order 2 where
+// nothing waits and nothing comes in: there, and there alone, that was faster.
 pub fn run(
     line: &mut [i32; 2112],
     order: u32,
@@ -114,7 +115,15 @@ pub fn run(
     while i < buffer.len() {
         let x = samples::read(line, from + i);
         let g = samples::read(line, far + i);
-        let t = carry(order, fed, h.filter.coefficients, v, k, x);
+        let t = carry(
+            order,
+            fed,
+            coming == 0 && !fed && order == 2,
+            h.filter.coefficients,
+            v,
+            k,
+            x,
+        );
         let y = heard(order, t.y);
         if is_loud(order, y) {
             let r = Ran {
@@ -125,9 +134,9 @@ pub fn run(
             return Led { ran: r, next: u };
         }
         let s = newest(fed, buffer, i, loss, y, last);
-        samples::write(line, at + i, s);
-        samples::write(buffer, i, y);
         let n = led(coming, fed, e.coefficients, u, g);
+        samples::write(buffer, i, y);
+        samples::write(line, at + i, s);
         v = t.state;
         k = t.products;
         u = n;

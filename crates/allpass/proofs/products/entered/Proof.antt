@@ -1,9 +1,10 @@
--- `allpass::products::entered` meets its contract: by its quotient, or by the sum of two numbers.
+-- `allpass::products::entered` meets its contract: by its quotient, by two differences, or by the sum of two numbers.
 -- Assumes nothing.
 use mathlib.Core.Path.{_≡_, ap, _∙_}
+use Prim.Native.Nat.{ℕ}
 use native.Mathlib.Omega.{arith}
 use borrow.Author.Needs.{needs}
-use lib.IntN.{ℤ, _-ℤ_}
+use lib.IntN.{ℤ, _+ℤ_, _-ℤ_, +ℤ-comm}
 use mir.Syntax.{w64}
 use mir.Val.{toZ, ofZ}
 use Rattle.integer.specs.Cut.{R}
@@ -36,14 +37,16 @@ module _ (c : tie.After-struct-told3) where
   abbrev start : tie.Start
   start = c .before .before .before
 
+  abbrev N : ℕ
+  N = start .args .order
+
   abbrev k : Products
-  k = productsOf (start .args .order) (start .args .c) (start .args .v)
+  k = productsOf N (start .args .c) (start .args .v)
 
   fit : Fits k
   fit =
       let f = start .pre .0 in
-      products-fit (start .args .order) (start .args .c) (start .args .v)
-      (f .least) (f .most) (f .taps-small) (f .state-within)
+      products-fit N (start .args .c) (start .args .v) (f .least) (f .most) (f .taps-small) (f .state-within)
 
   older-read : toZ w64 (ofZ w64 (start .args .k .older)) ≡ k .older
   older-read =
@@ -55,31 +58,60 @@ module _ (c : tie.After-struct-told3) where
       read w64 (start .args .k .newest) (c .struct-told3 .given .1 .0 .1)
       (ap (λ (k : Products). k .newest) (start .pre .1))
 
-plus-requires : tie.Need-plus-requires
-plus-requires c κs =
-    (rw (newest-read c) (omega (arith, fit c .newest)), rw (older-read c) (omega (arith, fit c .older)))
+  -- A1·v1 + .. + AN·vN
+  is-sum : k .newest +ℤ k .older ≡ dot (taps N (start .args .c)) (held N (start .args .v))
+  is-sum =
+      let l = c .before .before .if1 .left in
+      older-sum (start .args .c) (start .args .v) N (omega (arith, l)) (start .pre .0 .most)
 
--- A1·v1 + .. + AN·vN
-is-sum : (c : tie.After-plus) → c .plus .result .n
-    ≡ dot (taps (start (c .before) .args .order) (start (c .before) .args .c))
-    (held (start (c .before) .args .order) (start (c .before) .args .v))
-is-sum c =
-    let t = c .before in
-    let s = start t in
-    rw (newest-read t, older-read t) at (c .plus .ensures)
-    ∙ older-sum (s .args .c) (s .args .v) (s .args .order) (omega arith) (s .pre .0 .most)
-
-less-requires : tie.Need-less-requires
-less-requires c κs =
-    let s = start (c .before) in
-    let f = s .pre .0 in
-    (omega (arith, f .sample), rw (is-sum c) (dot-small (taps (s .args .order) (s .args .c)) (f .taps-small) (f .state-within)))
+less-ahead-requires : tie.Need-less-ahead-requires
+less-ahead-requires c κs =
+    let t = c .before in (
+      omega (arith, start t .pre .0 .sample),
+      rw (older-read t) (omega (arith, fit t .older)),
+      rw (newest-read t) (omega (arith, fit t .newest)),
+    )
 
 returns-2 : tie.Need-returns-2
 unfolding inner
 returns-2 c =
+    let t = c .before .before in
+    rw (older-read t, newest-read t) at (c .less-ahead .ensures)
+    ∙ ap (λ (u : ℤ). start t .args .f .n -ℤ R u) (+ℤ-comm (k t .older) (k t .newest) ∙ is-sum t)
+
+plus-requires : tie.Need-plus-requires
+plus-requires c κs =
+    let t = c .before in
+    (rw (newest-read t) (omega (arith, fit t .newest)), rw (older-read t) (omega (arith, fit t .older)))
+
+summed : (c : tie.After-plus) → let t = c .before .before in
+    c .plus .result .n ≡ dot (taps (N t) (start t .args .c)) (held (N t) (start t .args .v))
+summed c =
+    let t = c .before .before in
+    rw (newest-read t, older-read t) at (c .plus .ensures) ∙ is-sum t
+
+less-requires : tie.Need-less-requires
+less-requires c κs =
     let s = start (c .before .before) in
-    c .less .ensures ∙ ap (λ (u : ℤ). s .args .f .n -ℤ R u) (is-sum (c .before))
+    let f = s .pre .0 in (
+      omega (arith, f .sample),
+      rw (summed c) (dot-small (taps (s .args .order) (s .args .c)) (f .taps-small) (f .state-within)),
+    )
+
+returns-3 : tie.Need-returns-3
+unfolding inner
+returns-3 c =
+    let s = start (c .before .before .before) in
+    c .less .ensures ∙ ap (λ (u : ℤ). s .args .f .n -ℤ R u) (summed (c .before))
 
 pub entered-spec : {M : Type 1} → statement M
-entered-spec = tie.close (tie.spec inner-requires returns plus-requires less-requires returns-2)
+entered-spec =
+    tie.close
+    (tie.spec
+    inner-requires
+    returns
+    less-ahead-requires
+    returns-2
+    plus-requires
+    less-requires
+    returns-3)

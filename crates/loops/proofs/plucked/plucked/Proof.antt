@@ -18,7 +18,7 @@ use Rattle.loops.specs.Fed.{fedOf, inputOf}
 use Rattle.loops.specs.Rendered.{Went}
 use Rattle.loops.proofs.Fed.{length-fed, as-long, input-fed, set-fed}
 use Rattle.loops.proofs.Passes.{started, reads, more}
-use Rattle.loops.proofs.Carrying.{anew-self, kept-anew, carried-self, sung-steps}
+use Rattle.loops.proofs.Carrying.{anew-self, keeps, kept-anew, carried-self, sung-steps}
 use Rattle.loops.proofs.Taking.{from-on, taken-small, taken-circulates}
 use Rattle.loops.proofs.plucked.plucked.Statement.{statement}
 use Rattle.loops.proofs.plucked.plucked.Tie as tie
@@ -35,7 +35,7 @@ abbrev μ-loop : tie.MeasureT-loop
 kept-requires : tie.Need-kept-requires Inv-loop μ-loop
 kept-requires c κs =
     let s = c .before in
-    rw (s .pre .1 .0 .0) (s .pre .0 .0 .fit .filter .takes .most)
+    keeps (s .args .h .filter) (s .pre .0 .0 .fit .filter) (s .pre .1 .0 .0)
 
 of-state-requires : tie.Need-of-state-requires Inv-loop μ-loop
 of-state-requires c κs =

@@ -28,9 +28,9 @@ use Rattle.loops.specs.Fed.{fedOf, inputOf}
 use Rattle.loops.specs.Rendered.{Went}
 use Rattle.loops.proofs.Fed.{length-fed, as-long, input-fed, set-fed}
 use Rattle.loops.proofs.Passes.{Passed, started, reads, more}
-use Rattle.loops.proofs.Carrying.{kept-self}
+use Rattle.loops.proofs.Carrying.{keeps, kept-self}
 use Rattle.loops.proofs.Ahead.{feeds, moves}
-use Rattle.loops.proofs.Leading.{few, rests, begins, onOf, still, alone, goes}
+use Rattle.loops.proofs.Leading.{keeps-ahead, rests, begins, onOf, still, alone, goes}
 use Rattle.loops.proofs.Taking.{from-on, taken-small, taken-circulates}
 use Rattle.loops.proofs.run.run.Statement.{statement}
 use Rattle.loops.proofs.run.run.Tie as tie
@@ -46,34 +46,34 @@ abbrev μ-loop : tie.MeasureT-loop
     length buffer₀ - i
 
 kept-requires : tie.Need-kept-requires Inv-loop μ-loop
-kept-requires c κs = rw (c .pre .1 .0 .0) (c .pre .0 .0 .fit .filter .takes .most)
+kept-requires c κs = let s = c .before in keeps (s .args .h .filter) (s .pre .0 .0 .fit .filter) (s .pre .1 .0 .0)
 
 -- the state of the filter is all that is kept of it
-is-state : (c : tie.After-kept Inv-loop μ-loop) → c .kept .result ≡ c .before .args .h .filter .state
+is-state : (c : tie.After-kept Inv-loop μ-loop) → c .kept .result ≡ c .before .before .args .h .filter .state
 is-state c =
-    let s = c .before in
+    let s = c .before .before in
     kept-self (s .args .h .filter) (s .pre .0 .0 .fit .filter) (s .pre .1 .0 .0) (c .kept .ensures)
 
 of-state-requires : tie.Need-of-state-requires Inv-loop μ-loop
 of-state-requires c κs =
-    let s = c .before in
+    let s = c .before .before .before in
     let f = s .args .h .filter in
     rw (s .pre .1 .0 .0)
-    (subst (λ (v : State). Fed (f .tuning .order) (f .coefficients) v (pos 0)) (sym (is-state c))
+    (subst (λ (v : State). Fed (f .tuning .order) (f .coefficients) v (pos 0)) (sym (is-state (c .before)))
     (tuned-fed (s .pre .0 .0 .fit .filter) {x = pos 0} (omega arith)))
 
 kept-requires-2 : tie.Need-kept-requires-2 Inv-loop μ-loop
 kept-requires-2 c κs =
-    let s = c .before .before in
+    let s = c .before .before .before .before .before in
     let a = s .args in
-    few (a .h .waiting) (a .coming) (length (a .buffer .now)) (a .h .advance) (a .e) (s .pre .1 .0 .4)
+    keeps-ahead (a .h .waiting) (a .coming) (length (a .buffer .now)) (a .h .advance) (a .e) (s .pre .1 .0 .4)
     (s .pre .0 .0 .fit .waiting)
 
 loop-holds : tie.Need-loop-holds Inv-loop μ-loop
 loop-holds c =
     let j = c .before in
-    let q = j .before .before in
-    let s = q .before in
+    let q = j .before .before .before .before in
+    let s = q .before .before in
     let h = s .args .h in
     let fit = s .pre .0 .0 .fit in
     let u = j .kept2 .result in
@@ -82,13 +82,13 @@ loop-holds c =
     (j .kept2 .ensures) in (
       started (begins (h .waiting) h (q .kept .result) u refl (is-state q) r (fit .waiting) (fit .at))
           (s .pre .0 .1) (s .pre .0 .0),
-      c .before .before .of-state .ensures,
+      c .before .before .before .of-state .ensures,
     )
 
 -- where a pass begins, or the loop ends
 module _ (p : tie.At-loop Inv-loop μ-loop) where
   abbrev start : tie.Start Inv-loop μ-loop
-  start = p .before .before .before .before .before
+  start = p .before .before .before .before .before .before .before .before
 
   abbrev led : Led
   led = record { ran = record { state = p .loop .v; last = p .loop .last; done = p .loop .i }; next = p .loop .u }
@@ -197,10 +197,11 @@ module _ (c : tie.After-read2 Inv-loop μ-loop) where
 
 carry-requires : tie.Need-carry-requires Inv-loop μ-loop
 carry-requires c κs =
-    let w = within c in
-    let x = for-filter c .read .result .n in (
+    let t = c .before .before .before in
+    let w = within t in
+    let x = for-filter t .read .result .n in (
       subst (λ (N : ℕ). Fed N (h w .filter .coefficients) (pass w .loop .v) x) (sym (first w .pre .1 .0 .0))
-          (tuned-fed (valid w .fit .filter) (small c)),
+          (tuned-fed (valid w .fit .filter) (small t)),
       pass w .loop .inv .1,
     )
 
@@ -211,30 +212,33 @@ is-loud-requires : tie.Need-is-loud-requires Inv-loop μ-loop
 is-loud-requires c κs = c .heard .ensures .1
 
 same-length : tie.Need-same-length Inv-loop μ-loop
-same-length c = same (pass (within (c .before .before .before .before)))
+same-length c = same (pass (within (c .before .before .before .before .before .before .before .before)))
 
 returns : tie.Need-returns Inv-loop μ-loop
-returns c = pass (within (c .before .before .before .before)) .loop .inv .0
+returns c = pass (within (c .before .before .before .before .before .before .before .before)) .loop .inv .0
 
 -- once its output is known to be within the limits
-module _ (c : tie.Else1 Inv-loop μ-loop) where
+module _ (c : tie.Else3 Inv-loop μ-loop) where
   abbrev took : tie.After-carry Inv-loop μ-loop
-  took = c .before .before .before
+  took = c .before .before .before .before
+
+  abbrev read : tie.After-read2 Inv-loop μ-loop
+  read = took .before .before .before .before
 
   abbrev around : tie.In-loop Inv-loop μ-loop
-  around = within (took .before)
+  around = within read
 
   -- the output
   abbrev y : ℤ
   y = c .before .before .heard .result .n
 
   y-small : natAbs y ≤ M
-  y-small = leb-true (natAbs y) M (not-false (leb (natAbs y) M) (sym (c .before .is-loud .ensures) ∙ c .if1 .left))
+  y-small = leb-true (natAbs y) M (not-false (leb (natAbs y) M) (sym (c .before .is-loud .ensures) ∙ c .if3 .left))
 
-  out-is : clip y ≡ out (tapsOf (f around)) (filterOf (f around)) (for-filter (took .before) .read .result .n)
+  out-is : clip y ≡ out (tapsOf (f around)) (filterOf (f around)) (for-filter read .read .result .n)
   out-is =
       let a = first around .args in
-      let x = for-filter (took .before) .read .result .n in
+      let x = for-filter read .read .result .n in
       c .before .before .heard .ensures .0
       ∙ subst
       (λ (N : ℕ). clip (took .carry .result .y .n)
@@ -243,10 +247,10 @@ module _ (c : tie.Else1 Inv-loop μ-loop) where
       (took .carry .ensures .0)
 
   next-is : took .carry .result .state ≡ stored (next (tapsOf (f around)) (filterOf (f around))
-      (for-filter (took .before) .read .result .n))
+      (for-filter read .read .result .n))
   next-is =
       let a = first around .args in
-      let x = for-filter (took .before) .read .result .n in
+      let x = for-filter read .read .result .n in
       subst
       (λ (N : ℕ). took .carry .result .state
       ≡ stored (next (taps N (a .h .filter .coefficients)) (held N (pass around .loop .v)) x))
@@ -266,44 +270,44 @@ newest-requires c κs =
     let loss = subst (λ (g : ℕ). g ≤ 65535) (sym (first r .pre .1 .0 .2)) (v .loss) in
     ((r .loop-test .taken, input-small e), (loss, y-small e, v .last))
 
-add-write : tie.Need-add-write Inv-loop μ-loop
-add-write c =
-    let r = around (c .before .before .before) in
-    omega (arith, here r, inside r, first r .pre .1 .0 .3)
-
-write-requires : tie.Need-write-requires Inv-loop μ-loop
-write-requires c κs =
-    let e = c .before .before .before in
-    let r = around e in
-    let l = pass r .loop in
-    let a = first r .args in
-    let x = inputOf (a .fed) (l .buffer) (l .i) in
-    let u = (x +ℤ pos 0) +ℤ Q (pos (a .loss) *ℤ (y e +ℤ l .last .n)) in (
-      omega (arith, c .write-arg .given .0 .1, here r, inside r, first r .pre .1 .0 .3),
-      subst (λ (z : ℤ). natAbs z ≤ M) (sym (c .before .newest .ensures)) (clip-abs u),
-    )
-
-write-requires-2 : tie.Need-write-requires-2 Inv-loop μ-loop
-write-requires-2 c κs =
-    let e = c .before .before .before .before .before in
-    (around e .loop-test .taken, y-small e)
-
--- once its output is stored
-abbrev kept : tie.After-buffer Inv-loop μ-loop → tie.Else1 Inv-loop μ-loop
-kept c = c .before .before .before .before .before .before .before
-
 led-requires : tie.Need-led-requires Inv-loop μ-loop
 led-requires c κs =
-    let t = took (kept c) .before in
+    let t = read (c .before .before .before) in
     let r = within t in
     let s = first r .pre .1 in
     let a = first r .args in
     feeds (h r .waiting) (h r) (led (pass r)) (a .coming) (length (a .buffer .now)) (a .e) (s .0 .4)
     (so-far r .1) (long t) (s .1 .1) (s .1 .3) (more-left r) (t .read2 .ensures)
 
--- and its eliminator has moved
-abbrev moved : tie.After-k Inv-loop μ-loop → tie.After-buffer Inv-loop μ-loop
-moved c = c .before .before .before
+write-requires : tie.Need-write-requires Inv-loop μ-loop
+write-requires c κs =
+    let e = c .before .before .before .before .before in
+    (around e .loop-test .taken, y-small e)
+
+add-write : tie.Need-add-write Inv-loop μ-loop
+add-write c =
+    let r = around (c .before .before .before .before .before .before .before .before) in
+    omega (arith, here r, inside r, first r .pre .1 .0 .3)
+
+write-requires-2 : tie.Need-write-requires-2 Inv-loop μ-loop
+write-requires-2 c κs =
+    let n = c .before .before .before .before .before .before in
+    let e = n .before .before in
+    let r = around e in
+    let l = pass r .loop in
+    let a = first r .args in
+    let x = inputOf (a .fed) (l .buffer) (l .i) in
+    let u = (x +ℤ pos 0) +ℤ Q (pos (a .loss) *ℤ (y e +ℤ l .last .n)) in (
+      omega (arith, c .write-arg2 .given .0 .1, here r, inside r, first r .pre .1 .0 .3),
+      subst (λ (z : ℤ). natAbs z ≤ M) (sym (n .newest .ensures)) (clip-abs u),
+    )
+
+-- once its eliminator has moved, and its output and what goes into the line are stored
+abbrev moved : tie.After-k Inv-loop μ-loop → tie.After-write2 Inv-loop μ-loop
+moved c = c .before .before
+
+abbrev kept : tie.After-write2 Inv-loop μ-loop → tie.Else3 Inv-loop μ-loop
+kept c = c .before .before .before .before .before .before .before .before .before
 
 add-i : tie.Need-add-i Inv-loop μ-loop
 add-i c = let r = around (kept (moved c)) in omega (arith, more-left r, first r .pre .1 .1 .2 .0)
@@ -316,28 +320,28 @@ loop-again c =
     let b = moved c in
     let k = kept b in
     let t = took k in
-    let g = t .before in
+    let g = read k in
     let r = around k in
     let l = pass r .loop in
     let s = first r .args in
     let p = first r .pre .1 in
     let x = inputOf (s .fed) (l .buffer) (l .i) in
     let w = b .before .before .before in
+    let e = w .before .before .led in
+    let q = w .before .before .before .before .newest in
     let o = t .carry .ensures in
     let brought = subst
-    (λ (g : ℕ). w .before .before .newest .result .n
-    ≡ clip ((x +ℤ pos 0) +ℤ Q (pos g *ℤ (y k +ℤ l .last .n))))
-    (p .0 .2) (w .before .before .newest .ensures) in
-    let u = c .before .before .led .result in
+    (λ (g : ℕ). q .result .n ≡ clip ((x +ℤ pos 0) +ℤ Q (pos g *ℤ (y k +ℤ l .last .n))))
+    (p .0 .2) (q .ensures) in
+    let u = e .result in
     let made = taken-circulates (l .line) (at r) (long g) (inside r) (valid r .fit .filter) (place r)
     (for-filter g .read .ensures) (small g) (next-is k) (y-small k) (out-is k) (s .h .loss) (l .last .n) x
-    brought (ap (λ (n : ℕ). n + l .i) (p .0 .3) ∙ here r) (on r) (w .write .ensures) in
+    brought (ap (λ (n : ℕ). n + l .i) (p .0 .3) ∙ here r) (on r) (b .write2 .ensures) in
     let m = moves (s .h .waiting) (s .h) (led (pass r)) (s .coming) (length (s .buffer .now)) (s .e) u (p .0 .4)
-    (so-far r .1) (long g) (p .1 .1) (p .1 .3) (more-left r) (g .read2 .ensures)
-    (c .before .before .led .ensures) in (
+    (so-far r .1) (long g) (p .1 .1) (p .1 .3) (more-left r) (g .read2 .ensures) (e .ensures) in (
       more (so-far r) (left r) (input-fed (s .fed) (l .buffer) (l .i))
           (goes (s .h .waiting) (s .h) (led (pass r)) u (p .0 .1) made m (so-far r .1))
-          (ap (fedOf (s .fed) (l .i + 1)) (b .before .write2 .ensures)
+          (ap (fedOf (s .fed) (l .i + 1)) (w .write .ensures)
           ∙ set-fed (s .fed) (l .i) (l .buffer) (y k) (r .loop-test .taken))
           refl,
       o .2,
@@ -369,10 +373,10 @@ run-spec =
     same-length
     returns
     newest-requires
-    add-write
-    write-requires
-    write-requires-2
     led-requires
+    write-requires
+    add-write
+    write-requires-2
     add-i
     loop-less
     loop-again
