@@ -34,7 +34,10 @@ pub leads-by : (W : Waiting) (e : Filter) (n a : ℕ) {K : ℕ} → K ≡ e .tun
     → Leads W K e n a
 leads-by W e n a q l = subst (λ (K : ℕ). Leads W K e n a) (sym q) l
 
--- an order that is neither 1 nor 2
+-- an order that is neither 1 nor 3, and one that is neither 1 nor 2
+pub second : (N : ℕ) → 1 ≤ N → N ≤ 3 → (N ≡ 1 → ⊥) → (N ≡ 3 → ⊥) → 2 ≡ N
+second N l m a b = omega (arith, a, b)
+
 pub third : (N : ℕ) → 1 ≤ N → N ≤ 3 → (N ≡ 1 → ⊥) → (N ≡ 2 → ⊥) → 3 ≡ N
 third N l m a b = omega (arith, a, b)
 

@@ -4,7 +4,7 @@ use mathlib.Core.Path.{refl, sym}
 use borrow.Author.Needs.{needs}
 use lib.ListN.{length}
 use Rattle.loops.specs.Carried.{Leads}
-use Rattle.loops.proofs.Leading.{none-leads, third}
+use Rattle.loops.proofs.Leading.{none-leads, second}
 use Rattle.loops.proofs.orders.by_order.Statement.{statement}
 use Rattle.loops.proofs.orders.by_order.Tie as tie
 
@@ -49,7 +49,7 @@ run-requires-3 c κs =
     let p = s .pre .1 .1 in
     let w = idle s in
     let k = s .pre .0 .0 .fit .filter .takes in
-    let n = third (s .args .h .filter .tuning .order) (k .least) (k .most) (t .before .if1 .left) (t .if2 .left) in
+    let n = second (s .args .h .filter .tuning .order) (k .least) (k .most) (t .before .if1 .left) (t .if2 .left) in
     (s .pre .0, ((n, s .pre .1 .0 .1, refl, refl, w), (p .0, p .0, p .1, p .1)))
 
 same-length-3 : tie.Need-same-length-3
