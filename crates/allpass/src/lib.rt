@@ -42,7 +42,7 @@ pub fn at_rest() -> State
 }
 
 // v, which has 0 past the order, with that 0 in the code: a loop of the order carries no number for it. Of order 0
-// it is 0. In order 2 LLVM kept a number of a loop on the stack, where it does not so.
+// it is 0. In order 2 the numbers are made anew: LLVM then keeps them in registers of the loop.
 pub fn kept(order: u32, v: State) -> State
     requires { ⌜ (order ≤ orders) × Within (2 * M) (held order v) ⌝ }
     ensures { λ r. ⌜ r ≡ stored (held order v) ⌝ }

@@ -35,7 +35,7 @@ pub fn scale(g: u32, x: Value) -> Value
     times(Value { n: g as i64 }, x)
 }
 
-// x, through 32 bits and back. LLVM then has a number of its own for what a loop starts with, and keeps it in a register.
+// x, through 32 bits and back: another number to LLVM, which a loop that starts with it can have in a register.
 pub fn narrowed(x: Value) -> Value
     requires { ⌜ natAbs (x .n) ≤ 2 ^ 24 ⌝ }
     ensures { λ r. ⌜ r .n ≡ x .n ⌝ }

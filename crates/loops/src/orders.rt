@@ -18,7 +18,7 @@ use voice::Filter;
 use voice::Head;
 
 // Renders samples of the buffer where nothing comes in, while nothing waits, by the loop of the filter's order. That of
-// order 2 stands last, where it is as fast at every place that a linker puts it at.
+// order 2 stands last: so it was about as fast wherever a linker put the code.
 pub fn by_order(line: &mut [i32; 2112], h: Head, from: usize, buffer: &mut [i32]) -> Led
     requires { ⌜ Valid h (now line) × (loudest (fedOf false 0 (now buffer)) ≤ M) ⌝ }
     requires { ⌜ (h .waiting ≡ Idle) × (h .pluck .left ≡ 0) ⌝ }
