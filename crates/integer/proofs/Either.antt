@@ -4,7 +4,7 @@ use mathlib.Core.Path.{_≡_, sym}
 use mathlib.Core.Bool.{true, false}
 use Prim.Native.Nat.{ℕ, _+_, _*_, _≤_, _<_, _^_}
 use native.Mathlib.Omega.{arith}
-use native.Mathlib.Nat.{div-add-mod', mod-lt, div-le-self}
+use native.Mathlib.Nat.{div-le-self}
 use lib.Dec.{lit<}
 use lib.IntN.{ℤ, pos, natAbs, _+ℤ_, _-ℤ_, _*ℤ_}
 use lib.Signed.{ltZ}
@@ -14,23 +14,15 @@ use Rattle.integer.specs.Cut.{R}
 use Rattle.integer.proofs.View.{+v, -v, *v, onev, Zs}
 use Rattle.integer.proofs.Ring.{abs--}
 use Rattle.integer.proofs.Rounding.{floor-only}
-use Rattle.integer.proofs.Cut.{cutv, R-abs}
+use Rattle.integer.proofs.Cut.{R-abs}
+use Rattle.integer.proofs.Sides.{sized as parts}
 
 -- each part of u is 65,536 times that of R(u), and less than 65,536 more
-pub sized : (u : ℤ)
+sized : (u : ℤ)
     → (65536 * up (R u) ≤ up u) × (up u < 65536 * up (R u) + 65536)
     × (65536 * dn (R u) ≤ dn u) × (dn u < 65536 * dn (R u) + 65536)
 unfolding R
-sized u =
-    let h : 0 < 65536 = lit< tt in
-    omega (
-      arith,
-      cutv u 65536,
-      div-add-mod' (up u) 65536,
-      div-add-mod' (dn u) 65536,
-      mod-lt (up u) h,
-      mod-lt (dn u) h,
-    )
+sized u = parts u 65536 (lit< tt)
 
 module _ (u : ℤ) where
   -- R(u) with the other sign

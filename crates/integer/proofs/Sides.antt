@@ -1,12 +1,12 @@
 -- The cut of u by a floor: of u where it is not below 0, and of d − 1 more where it is not above 0. And the sign of a
 -- product. Assumes nothing.
 use mathlib.Core.Path.{_≡_, sym}
-use mathlib.Core.Bool.{true, false, cond, not}
-use Prim.Native.Nat.{ℕ, suc, _+_, _*_, _-_, _≤_, _<_}
+use mathlib.Core.Bool.{Bool, true, false, cond, not}
+use Prim.Native.Nat.{ℕ, suc, _+_, _*_, _-_, _≤_, _<_, _^_}
 use native.Mathlib.Omega.{arith}
 use native.Mathlib.Nat.{div-add-mod', mod-lt}
 use lib.Dec.{leb·suc-zero}
-use lib.IntN.{ℤ, pos, negsuc, _+ℤ_, _*ℤ_}
+use lib.IntN.{ℤ, pos, negsuc, natAbs, _+ℤ_, _*ℤ_}
 use lib.Signed.{ltZ, _≤ℤ_}
 use Rattle.integer.specs.Parts.{up, dn}
 use Rattle.integer.specs.Rounding.{floor}
@@ -15,9 +15,14 @@ use Rattle.integer.proofs.View.{+v, *v, negv, onev, Zs}
 use Rattle.integer.proofs.Rounding.{floor-only}
 use Rattle.integer.proofs.Cut.{cutv}
 
+-- what is added is not too large
+pub few : (b : Bool) (n : ℕ) → n ≤ 2 ^ 42 → natAbs (cond b (pos n) (pos 0)) ≤ 2 ^ 42
+few true n h = h
+few false n h = omega arith
+
 module _ (u : ℤ) (d : ℕ) (h : 0 < d) where
   -- each part of u is d times that of its cut, and less than d more
-  sized : (d * up (cut u d) ≤ up u) × (up u < d * up (cut u d) + d)
+  pub sized : (d * up (cut u d) ≤ up u) × (up u < d * up (cut u d) + d)
       × (d * dn (cut u d) ≤ dn u) × (dn u < d * dn (cut u d) + d)
   sized =
       let e = cutv u d in

@@ -10,8 +10,9 @@ use mir.Syntax.{w64}
 use mir.Val.{toZ, ofZ}
 use Rattle.integer.specs.Rounding.{M}
 use Rattle.integer.proofs.View.{read}
-use Rattle.allpass.specs.Bounds.{Within, none, more}
+use Rattle.allpass.specs.Bounds.{Within}
 use Rattle.allpass.specs.Stored.{stored, held}
+use Rattle.allpass.proofs.Little.{number-within}
 use Rattle.allpass.proofs.kept.Statement.{statement}
 use Rattle.allpass.proofs.kept.Tie as tie
 
@@ -29,9 +30,6 @@ returns-2 c =
     rw (e, read w64 (s .args .v .v1) (c .struct-told .given .0 .1) refl)
 
 -- ---- order 2
-both : {B : ℕ} {x y : ℤ} → Within B (x ∷ y ∷ []) → (natAbs x ≤ B) × (natAbs y ≤ B)
-both (more h (more k none)) = (h, k)
-
 module _ (c : tie.Then3) where
   abbrev start : tie.Start
   start = c .before .before .before
@@ -40,7 +38,10 @@ module _ (c : tie.Then3) where
   is-two = omega (arith, c .if3 .taken, c .before .if2 .left)
 
   small : (natAbs (start .args .v .v1) ≤ 2 * M) × (natAbs (start .args .v .v2) ≤ 2 * M)
-  small = both (subst (λ (N : ℕ). Within (2 * M) (held N (start .args .v))) is-two (start .pre .1))
+  small =
+      let v = start .args .v in
+      let w = subst (λ (N : ℕ). Within (2 * M) (held N v)) is-two (start .pre .1) in
+      (number-within 2 v w 0, number-within 2 v w 1)
 
 first-read : (c : tie.After-struct-told2) → let v = start (c .before) .args .v in toZ w64 (ofZ w64 (v .v1)) ≡ v .v1
 first-read c = read w64 (start (c .before) .args .v .v1) (c .struct-told2 .given .0 .1) refl

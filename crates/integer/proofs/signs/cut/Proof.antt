@@ -1,30 +1,24 @@
 -- `integer::signs::cut` meets its contract: by the side of 0 (proofs/Sides.antt).
 -- Assumes nothing.
 use mathlib.Core.Path.{_≡_, ap, _∙_}
-use mathlib.Core.Bool.{Bool, true, false, cond}
-use Prim.Native.Nat.{_≤_, _^_}
 use native.Mathlib.Omega.{arith}
 use borrow.Author.Needs.{needs}
 use lib.Dec.{lit<}
-use lib.IntN.{ℤ, pos, natAbs, _+ℤ_}
+use lib.IntN.{ℤ, pos, _+ℤ_}
 use lib.Signed.{ltZ}
 use Rattle.integer.specs.Rounding.{floor}
 use Rattle.integer.specs.Cut.{R}
-use Rattle.integer.proofs.Sides.{floor-as}
+use Rattle.integer.proofs.Sides.{few, floor-as}
 use Rattle.integer.proofs.signs.cut.Statement.{statement}
 use Rattle.integer.proofs.signs.cut.Tie as tie
 
 bits-q16-requires : tie.Need-bits-q16-requires
 bits-q16-requires c κs = search needs
 
-few : (b : Bool) → natAbs (cond b (pos 65535) (pos 0)) ≤ 2 ^ 42
-few true = omega arith
-few false = omega arith
-
 plus-requires : tie.Need-plus-requires
 plus-requires c κs =
     let s = c .before in
-    (s .pre, rw (c .bits-q16 .ensures) (few (ltZ (s .args .u .n) (pos 0))))
+    (s .pre, rw (c .bits-q16 .ensures) (few (ltZ (s .args .u .n) (pos 0)) 65535 (omega arith)))
 
 floor-q16-requires : tie.Need-floor-q16-requires
 floor-q16-requires c κs = search needs

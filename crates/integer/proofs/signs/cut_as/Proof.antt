@@ -1,30 +1,24 @@
 -- `integer::signs::cut_as` meets its contract: by the side of 0 (proofs/Sides.antt).
 -- Assumes nothing.
 use mathlib.Core.Path.{_≡_, ap, _∙_}
-use mathlib.Core.Bool.{Bool, true, false, cond}
-use Prim.Native.Nat.{_≤_, _^_}
 use native.Mathlib.Omega.{arith}
 use borrow.Author.Needs.{needs}
 use lib.Dec.{lit<}
-use lib.IntN.{ℤ, pos, natAbs, _+ℤ_}
+use lib.IntN.{ℤ, pos, _+ℤ_}
 use lib.Signed.{ltZ}
 use Rattle.integer.specs.Rounding.{floor}
 use Rattle.integer.specs.Cut.{Q}
-use Rattle.integer.proofs.Sides.{floor-as}
+use Rattle.integer.proofs.Sides.{few, floor-as}
 use Rattle.integer.proofs.signs.cut_as.Statement.{statement}
 use Rattle.integer.proofs.signs.cut_as.Tie as tie
 
 bits-q17-requires : tie.Need-bits-q17-requires
 bits-q17-requires c κs = search needs
 
-few : (b : Bool) → natAbs (cond b (pos 131071) (pos 0)) ≤ 2 ^ 42
-few true = omega arith
-few false = omega arith
-
 plus-requires : tie.Need-plus-requires
 plus-requires c κs =
     let s = c .before in
-    (s .pre .1, rw (c .bits-q17 .ensures) (few (ltZ (s .args .t .n) (pos 0))))
+    (s .pre .1, rw (c .bits-q17 .ensures) (few (ltZ (s .args .t .n) (pos 0)) 131071 (omega arith)))
 
 floor-q17-requires : tie.Need-floor-q17-requires
 floor-q17-requires c κs = search needs

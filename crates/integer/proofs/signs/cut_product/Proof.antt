@@ -1,27 +1,23 @@
 -- `integer::signs::cut_product` meets its contract: by the signs of the factors (proofs/Sides.antt).
 -- Assumes nothing.
 use mathlib.Core.Path.{_≡_, ap, _∙_}
-use mathlib.Core.Bool.{Bool, true, false, cond, not}
+use mathlib.Core.Bool.{cond, not}
 use Prim.Native.Nat.{ℕ, _≤_, _^_}
 use native.Mathlib.Omega.{arith}
 use native.Mathlib.Nat.{mul-le-mul}
 use borrow.Author.Needs.{needs}
 use lib.Dec.{lit<}
-use lib.IntN.{ℤ, pos, natAbs, _+ℤ_, _*ℤ_}
+use lib.IntN.{ℤ, pos, _+ℤ_, _*ℤ_}
 use lib.Signed.{ltZ}
 use Rattle.integer.specs.Rounding.{floor}
 use Rattle.integer.specs.Cut.{R}
 use Rattle.integer.proofs.Ring.{abs-*}
-use Rattle.integer.proofs.Sides.{floor-product}
+use Rattle.integer.proofs.Sides.{few, floor-product}
 use Rattle.integer.proofs.signs.cut_product.Statement.{statement}
 use Rattle.integer.proofs.signs.cut_product.Tie as tie
 
 apart-requires : tie.Need-apart-requires
 apart-requires c κs = (omega (arith, c .pre .1), omega (arith, c .pre .2))
-
-few : (b : Bool) → natAbs (cond b (pos 65535) (pos 0)) ≤ 2 ^ 42
-few true = omega arith
-few false = omega arith
 
 plus-requires : tie.Need-plus-requires
 plus-requires c κs =
@@ -30,7 +26,7 @@ plus-requires c κs =
     let w = s .args .w .n in
     let b = cond (ltZ a (pos 0)) (not (ltZ w (pos 0))) (ltZ w (pos 0)) in (
       rw (s .pre .0) (omega (arith, abs-* a w, mul-le-mul (s .pre .1) (s .pre .2))),
-      rw (c .apart .ensures) (few b),
+      rw (c .apart .ensures) (few b 65535 (omega arith)),
     )
 
 floor-q16-requires : tie.Need-floor-q16-requires

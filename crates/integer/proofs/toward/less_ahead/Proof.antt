@@ -1,11 +1,10 @@
 -- `integer::toward::less_ahead` meets its contract: by a floor on either side of 0 (proofs/Ahead.antt).
 -- Assumes nothing.
 use borrow.Author.Needs.{needs}
-use mathlib.Core.Path.{_≡_, sym, ap, _∙_}
+use mathlib.Core.Path.{_≡_, sym, _∙_}
 use Prim.Native.Nat.{_≤_, _^_}
 use native.Mathlib.Omega.{arith}
 use lib.IntN.{ℤ, pos, natAbs, _+ℤ_, _-ℤ_, _*ℤ_}
-use Rattle.integer.specs.Rounding.{floor}
 use Rattle.integer.specs.Cut.{R}
 use Rattle.integer.proofs.Ring.{abs-*}
 use Rattle.integer.proofs.Ahead.{turned, straight, back, small, back-small}
