@@ -8,14 +8,10 @@ pub mod sample;
 
 ghost use mathlib.Core.Path.{_≡_};
 ghost use mathlib.Core.List.{[]};
-ghost use Prim.Native.Nat.{_*_, _≤_};
-ghost use Rattle.integer.specs.Rounding.{M};
+ghost use Prim.Native.Nat.{_≤_};
 ghost use Rattle.refusal.specs.Orders.{orders};
-ghost use Rattle.allpass.specs.Bounds.{Within};
 ghost use Rattle.allpass.specs.Length.{effectiveLength};
 ghost use Rattle.allpass.specs.Stored.{held, stored};
-use integer::Value;
-use integer::arithmetic::narrowed;
 
 // v1, v2 and v3; 0 past the order.
 pub struct State {
@@ -42,9 +38,9 @@ pub fn at_rest() -> State
 }
 
 // v, which has 0 past the order, with that 0 in the code: a loop of the order carries no number for it. Of order 0
-// it is 0. In order 2 the numbers are made anew: LLVM then keeps them in registers of the loop.
+// it is 0.
 pub fn kept(order: u32, v: State) -> State
-    requires { ⌜ (order ≤ orders) × Within (2 * M) (held order v) ⌝ }
+    requires { ⌜ order ≤ orders ⌝ }
     ensures { λ r. ⌜ r ≡ stored (held order v) ⌝ }
 {
     if order == 0 {
@@ -58,11 +54,9 @@ pub fn kept(order: u32, v: State) -> State
         };
     }
     if order < 3 {
-        let x = narrowed(Value { n: v.v1 });
-        let y = narrowed(Value { n: v.v2 });
         return State {
-            v1: x.n,
-            v2: y.n,
+            v1: v.v1,
+            v2: v.v2,
             v3: 0,
         };
     }

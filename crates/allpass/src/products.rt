@@ -21,7 +21,6 @@ use crate::multiples::scaled;
 use integer::Value;
 use integer::arithmetic::plus;
 use integer::toward::less;
-use integer::toward::less_ahead;
 use thiran::formula::Coefficients;
 
 // Of a state v1, v2, v3: newest is A1·v1, older A2·v2 + A3·v3, next A2·v1 + A3·v2, third A3·v1; turned is what
@@ -64,28 +63,16 @@ fn third(order: u32, v: State) -> Value
     Value { n: v.v3 }
 }
 
-// w: of a sum, or above order 1 of two differences, split.
-fn entered(
-    order: u32,
-    noisy: bool,
-    split: bool,
-    c: Coefficients,
-    v: State,
-    k: Products,
-    f: Value,
-) -> Value
+// w: by the quotient in order 1, else by the sum of two numbers.
+fn entered(order: u32, noisy: bool, c: Coefficients, v: State, k: Products, f: Value) -> Value
     requires { ⌜ Fed order c v (f .n) × (k ≡ productsOf order c v) ⌝ }
     ensures { λ w. ⌜ w .n ≡ Inner (taps order c) (held order v) (f .n) ⌝ }
 {
     if order == 1 {
         return inner(order, c, v, Value { n: k.cut }, f);
     }
-    let q = Value { n: k.older };
-    let m = Value { n: k.newest };
-    if split {
-        return less_ahead(f, q, m);
-    }
-    less(noisy, f, plus(m, q))
+    let u = plus(Value { n: k.newest }, Value { n: k.older });
+    less(noisy, f, u)
 }
 
 // Those of the next state, whose w has the products x.
@@ -147,23 +134,14 @@ pub fn of_state(order: u32, c: Coefficients, v: State) -> Products
     joined(order, c, Value { n: v.v1 }, x, y, z)
 }
 
-// One sample of the filter, where k has the products of v; R as is best where noise may come, or where it does not,
-// and w of two differences where it is split.
-pub fn carry(
-    order: u32,
-    noisy: bool,
-    split: bool,
-    c: Coefficients,
-    v: State,
-    k: Products,
-    f: Value,
-) -> Carried
+// One sample of the filter, where k has the products of v; R as is best where noise may come, or where it does not.
+pub fn carry(order: u32, noisy: bool, c: Coefficients, v: State, k: Products, f: Value) -> Carried
     requires { ⌜ Fed order c v (f .n) × (k ≡ productsOf order c v) ⌝ }
     ensures { λ t. ⌜ (Clip (t .y .n) ≡ out (taps order c) (held order v) (f .n))
         × (t .state ≡ stored (next (taps order c) (held order v) (f .n)))
         × (t .products ≡ productsOf order c (t .state)) ⌝ }
 {
-    let w = entered(order, noisy, split, c, v, k, f);
+    let w = entered(order, noisy, c, v, k, f);
     let x = scaled(order, c, w);
     let n = renewed(order, c, w, k, x);
     let y = output(

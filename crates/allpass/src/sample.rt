@@ -29,7 +29,7 @@ pub fn allpass(order: u32, c: Coefficients, v: State, f: Value) -> Filtered
     ensures { λ r. ⌜ (r .y .n ≡ out (taps order c) (held order v) (f .n))
         × (r .state ≡ stored (next (taps order c) (held order v) (f .n))) ⌝ }
 {
-    let t = carry(order, true, false, c, v, of_state(order, c, v), f);
+    let t = carry(order, true, c, v, of_state(order, c, v), f);
     let s = t.state;
     Filtered {
         y: clip(t.y),

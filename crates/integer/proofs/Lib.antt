@@ -5,4 +5,3 @@ pub mod Cut
 pub mod Sides
 mod Quotient
 mod Either
-mod Ahead

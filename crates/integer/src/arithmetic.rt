@@ -35,15 +35,6 @@ pub fn scale(g: u32, x: Value) -> Value
     times(Value { n: g as i64 }, x)
 }
 
-// x, through 32 bits and back: another number to LLVM, which a loop that starts with it can have in a register.
-pub fn narrowed(x: Value) -> Value
-    requires { ⌜ natAbs (x .n) ≤ 2 ^ 24 ⌝ }
-    ensures { λ r. ⌜ r .n ≡ x .n ⌝ }
-{
-    let y = x.n as i32;
-    Value { n: y as i64 }
-}
-
 // u / 65,536 downward.
 pub fn floor_q16(u: Value) -> Value
     ensures { λ r. ⌜ r .n ≡ floor (u .n) 65536 ⌝ }

@@ -9,7 +9,6 @@ use crate::arithmetic::floor_q16;
 use crate::arithmetic::is_below_zero;
 use crate::arithmetic::minus;
 use crate::arithmetic::plus;
-use crate::arithmetic::times;
 use crate::signs::cut;
 
 // f − R(u), by bits where noise may come.
@@ -24,19 +23,6 @@ pub fn less(noisy: bool, f: Value, u: Value) -> Value
         return plus(f, floor_q16(minus(Value { n: 0 }, u)));
     }
     minus(f, floor_q16(u))
-}
-
-// f − R(q + m) by a branch, where m is known last: it goes through a difference and a shift, and through a change of
-// sign where the sum is not below 0.
-pub fn less_ahead(f: Value, q: Value, m: Value) -> Value
-    requires { ⌜ (natAbs (f .n) ≤ 2 ^ 24) × (natAbs (q .n) ≤ 2 ^ 41) × (natAbs (m .n) ≤ 2 ^ 41) ⌝ }
-    ensures { λ r. ⌜ r .n ≡ f .n -ℤ R (q .n +ℤ m .n) ⌝ }
-{
-    let p = minus(times(Value { n: 65_536 }, f), q);
-    if is_below_zero(plus(q, m)) {
-        return floor_q16(minus(p, m));
-    }
-    minus(Value { n: 0 }, floor_q16(minus(m, p)))
 }
 
 // f + R(u), by bits where noise may come.

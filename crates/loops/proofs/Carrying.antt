@@ -2,13 +2,11 @@
 -- Assumes nothing.
 use mathlib.Core.Path.{_≡_, refl, sym, ap, _∙_}
 use mathlib.Core.List.{List}
-use Prim.Native.Nat.{ℕ, suc, _*_, _≤_, _<_, min}
+use Prim.Native.Nat.{ℕ, suc, _≤_, _<_, min}
 use native.Mathlib.Omega.{arith}
 use lib.IntN.{ℤ, pos}
 use Rattle.integer.specs.declared.Value.{Value}
-use Rattle.integer.specs.Rounding.{M}
 use Rattle.allpass.specs.declared.State.{State}
-use Rattle.allpass.specs.Bounds.{Within}
 use Rattle.allpass.specs.Stored.{held, stored}
 use Rattle.line.specs.Ring.{ring}
 use Rattle.rule.specs.Voice.{announced}
@@ -35,9 +33,8 @@ pub anew-self : {N : ℕ} (f : Filter) → N ≡ f .tuning .order → anewOf N f
 anew-self f e = rw e
 
 -- what is asked where the numbers of a filter's state are kept
-pub keeps : {N : ℕ} (f : Filter) → Tuned f → N ≡ f .tuning .order
-    → (N ≤ 3) × Within (2 * M) (held N (f .state))
-keeps f t e = rw e (t .takes .most, t .within)
+pub keeps : {N : ℕ} (f : Filter) → Tuned f → N ≡ f .tuning .order → N ≤ 3
+keeps f t e = rw e (t .takes .most)
 
 -- the state of a filter whose numbers up to the order are kept
 pub kept-self : {N : ℕ} {v : State} (f : Filter) → Tuned f → N ≡ f .tuning .order → v ≡ stored (held N (f .state))

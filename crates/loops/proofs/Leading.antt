@@ -2,15 +2,17 @@
 -- what waits. Assumes nothing.
 use mathlib.Core.Path.{_≡_, refl, sym, ap, subst, _∙_}
 use mathlib.Core.List.{List}
-use Prim.Native.Nat.{ℕ, suc, _+_, _*_, _%_, _≤_, _<_, min}
+use mathlib.Core.Bool.{Bool}
+use Prim.Native.Nat.{ℕ, suc, _+_, _-_, _%_, _≤_, _<_, min}
 use native.Mathlib.Omega.{arith}
 use lib.IntN.{ℤ, pos}
+use lib.ListN.{length}
 use Rattle.integer.specs.declared.Value.{Value}
 use Rattle.integer.specs.Rounding.{M}
 use Rattle.allpass.specs.declared.State.{State}
-use Rattle.allpass.specs.Bounds.{Within, none}
 use Rattle.allpass.specs.Stored.{held, stored}
-use Rattle.line.specs.Ring.{ring}
+use Rattle.samples.specs.Samples.{loudest}
+use Rattle.line.specs.Ring.{ring, Apart}
 use Rattle.rule.specs.State.{back}
 use Rattle.voice.specs.declared.Filter.{Filter}
 use Rattle.voice.specs.declared.Waiting.{Waiting}
@@ -21,10 +23,19 @@ use Rattle.voice.specs.Valid.{Tuned, Waiting-valid, Valid}
 use Rattle.step.specs.Sample.{Moved, Circulates, Steps}
 use Rattle.loops.specs.declared.Led.{Led}
 use Rattle.loops.specs.Carried.{anewOf, carriedOf, ranOf, goneOf, Leads}
+use Rattle.loops.specs.Fed.{fedOf}
 use Rattle.loops.proofs.Carrying.{anew-self, keeps, kept-self, carried-self, quiet-steps, led-steps}
 use Rattle.loops.proofs.Carrying.{due-later, due-self, due-as}
 
 -- ---- which loop it is
+-- what `run` asks
+abbrev pub Asks : ℕ → ℕ → Bool → Head → Filter → ℕ → ℕ → List ℤ → List ℤ → Type 0
+Asks N K fed h e from far l b =
+    (Valid h l × (loudest (fedOf fed 0 b) ≤ M))
+    × (((N ≡ h .filter .tuning .order) × (h .pluck .left ≡ 0) × Leads (h .waiting) K e (length b) (h .advance))
+    × ((from ≡ (h .at + 2112 - h .filter .tuning .length) % 2112) × (far ≡ (h .at + 2112 - e .tuning .length) % 2112)
+    × Apart (h .at) (h .filter .tuning .length) (length b) × Apart (h .at) (e .tuning .length) (length b)))
+
 -- nothing waits, and no eliminator runs
 pub none-leads : (W : Waiting) (e : Filter) (n a : ℕ) → W ≡ Idle → Leads W 0 e n a
 none-leads W e n a q = subst (λ (w : Waiting). Leads w 0 e n a) (sym q) refl
@@ -34,10 +45,7 @@ pub leads-by : (W : Waiting) (e : Filter) (n a : ℕ) {K : ℕ} → K ≡ e .tun
     → Leads W K e n a
 leads-by W e n a q l = subst (λ (K : ℕ). Leads W K e n a) (sym q) l
 
--- an order that is neither 1 nor 3, and one that is neither 1 nor 2
-pub second : (N : ℕ) → 1 ≤ N → N ≤ 3 → (N ≡ 1 → ⊥) → (N ≡ 3 → ⊥) → 2 ≡ N
-second N l m a b = omega (arith, a, b)
-
+-- an order that is neither 1 nor 2
 pub third : (N : ℕ) → 1 ≤ N → N ≤ 3 → (N ≡ 1 → ⊥) → (N ≡ 2 → ⊥) → 3 ≡ N
 third N l m a b = omega (arith, a, b)
 
@@ -48,9 +56,8 @@ Rests Idle u = Unit {0}
 Rests (Prepared k d t) u = u ≡ d .state
 
 -- what is asked where its numbers are kept
-pub keeps-ahead : (W : Waiting) (K n a : ℕ) (e : Filter) → Leads W K e n a → Waiting-valid a W
-    → (K ≤ 3) × Within (2 * M) (held K (e .state))
-keeps-ahead Idle K n a e l w = rw l (omega arith, none)
+pub keeps-ahead : (W : Waiting) (K n a : ℕ) (e : Filter) → Leads W K e n a → Waiting-valid a W → K ≤ 3
+keeps-ahead Idle K n a e l w = rw l (omega arith)
 keeps-ahead (Prepared k d t) K n a e l w = keeps e (subst (λ (f : Filter). Tuned f) (l .1) (w .tuned)) (l .0)
 
 pub rests : (W : Waiting) (K n a : ℕ) (e : Filter) (u : State) → Leads W K e n a → Waiting-valid a W

@@ -17,7 +17,6 @@ use voice::Filter;
 use voice::Head;
 
 pub mod carried;
-mod inputs;
 mod orders;
 pub mod plucked;
 mod run;
@@ -61,10 +60,7 @@ pub fn while_idle(line: &mut [i32; 2112], fed: bool, h: Head, buffer: &mut [i32]
         (now (line .exit)) (r .ran .done) ⌝ }
 {
     let from = line::place(h.at, h.filter.tuning.length as usize);
-    if fed {
-        return inputs::by_order(line, h, from, buffer);
-    }
-    orders::by_order(line, h, from, buffer)
+    orders::by_order(line, fed, h, from, buffer)
 }
 
 // Renders samples of the buffer while a change waits; an announced one may take effect at the last.
@@ -86,8 +82,5 @@ pub fn while_waiting(
 {
     let from = line::place(h.at, h.filter.tuning.length as usize);
     let far = line::place(h.at, e.tuning.length as usize);
-    if fed {
-        return inputs::by_orders(line, h, e, from, far, buffer);
-    }
-    orders::by_orders(line, h, e, from, far, buffer)
+    orders::by_orders(line, fed, h, e, from, far, buffer)
 }

@@ -60,7 +60,7 @@ fn plucked(
     let mut i = 0;
     while i < buffer.len() {
         let x = samples::read(line, from + i);
-        let t = carry(order, true, false, c, v, k, x);
+        let t = carry(order, true, c, v, k, x);
         let y = clip(t.y);
         let o = sound(p);
         let b = looped(h.loss, y, last);

@@ -80,10 +80,8 @@ fn led(coming: u32, fed: bool, c: Coefficients, u: State, g: Value) -> State
     eliminate(coming, fed, c, u, g)
 }
 
-// Renders samples of the buffer. loss and at are those of h: a loop with more parameters costs LLVM less to compile
-// into its caller. from and far are the places that the filter and an eliminator e read at first; coming is the order
-// of e, or 0 where nothing waits. An announced change does not take effect before the end. w is split in order 2 where
-// nothing waits and nothing comes in: there, and there alone, that was faster.
+// Renders samples of the buffer. from and far are the places that the filter and an eliminator e read at first; coming
+// is the order of e, or 0 where nothing waits. An announced change does not take effect before the end.
 pub fn run(
     line: &mut [i32; 2112],
     order: u32,
@@ -91,14 +89,12 @@ pub fn run(
     fed: bool,
     h: Head,
     e: Filter,
-    loss: u32,
-    at: usize,
     from: usize,
     far: usize,
     buffer: &mut [i32],
 ) -> Led
     requires { ⌜ Valid h (now line) × (loudest (fedOf fed 0 (now buffer)) ≤ M) ⌝ }
-    requires { ⌜ (order ≡ h .filter .tuning .order) × (h .pluck .left ≡ 0) × (loss ≡ h .loss) × (at ≡ h .at)
+    requires { ⌜ (order ≡ h .filter .tuning .order) × (h .pluck .left ≡ 0)
         × Leads (h .waiting) coming e (length (now buffer)) (h .advance) ⌝ }
     requires { ⌜ (from ≡ (h .at + 2112 - h .filter .tuning .length) % 2112)
         × (far ≡ (h .at + 2112 - e .tuning .length) % 2112)
@@ -115,15 +111,7 @@ pub fn run(
     while i < buffer.len() {
         let x = samples::read(line, from + i);
         let g = samples::read(line, far + i);
-        let t = carry(
-            order,
-            fed,
-            coming == 0 && !fed && order == 2,
-            h.filter.coefficients,
-            v,
-            k,
-            x,
-        );
+        let t = carry(order, fed, h.filter.coefficients, v, k, x);
         let y = heard(order, t.y);
         if is_loud(order, y) {
             let r = Ran {
@@ -133,10 +121,10 @@ pub fn run(
             };
             return Led { ran: r, next: u };
         }
-        let s = newest(fed, buffer, i, loss, y, last);
+        let s = newest(fed, buffer, i, h.loss, y, last);
         let n = led(coming, fed, e.coefficients, u, g);
         samples::write(buffer, i, y);
-        samples::write(line, at + i, s);
+        samples::write(line, h.at + i, s);
         v = t.state;
         k = t.products;
         u = n;

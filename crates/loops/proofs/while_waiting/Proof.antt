@@ -38,14 +38,12 @@ leads s =
     subst (λ (w : Waiting). Leads w (a .e .tuning .order) (a .e) (length (a .buffer .now)) (a .h .advance))
     (sym (s .pre .1 .0)) (refl, refl, s .pre .0 .2)
 
--- ---- something comes in
 by-orders-requires : tie.Need-by-orders-requires
 by-orders-requires c κs =
-    let t = c .before .before in
-    let far = t .before in
+    let far = c .before .before in
     let from = far .before .before in
     let s = from .before .before in (
-      (s .pre .0 .0, rw (t .if1 .taken) at (s .pre .0 .1)),
+      (s .pre .0 .0, s .pre .0 .1),
       (
         (s .pre .1 .1, waits s .tuned, leads s),
         (from .place .ensures, far .place2 .ensures, s .pre .1 .2, s .pre .1 .3),
@@ -56,39 +54,9 @@ same-length : tie.Need-same-length
 same-length c = search needs
 
 returns : tie.Need-returns
-returns c = rw (c .before .before .before .before .if1 .taken) (c .before .by-orders .ensures)
-
--- ---- nothing comes in
-by-orders-requires-2 : tie.Need-by-orders-requires-2
-by-orders-requires-2 c κs =
-    let t = c .before .before in
-    let far = t .before in
-    let from = far .before .before in
-    let s = from .before .before in (
-      (s .pre .0 .0, rw (t .if1 .left) at (s .pre .0 .1)),
-      (
-        (s .pre .1 .1, waits s .tuned, leads s),
-        (from .place .ensures, far .place2 .ensures, s .pre .1 .2, s .pre .1 .3),
-      ),
-    )
-
-same-length-2 : tie.Need-same-length-2
-same-length-2 c = search needs
-
-returns-2 : tie.Need-returns-2
-returns-2 c = rw (c .before .before .before .before .if1 .left) (c .before .by-orders2 .ensures)
+returns c = search needs
 
 pub while-waiting-spec : {M : Type 1} → statement M
 while-waiting-spec =
     tie.close
-    (tie.spec
-    cast-place
-    place-requires
-    cast-place-2
-    place-requires-2
-    by-orders-requires
-    same-length
-    returns
-    by-orders-requires-2
-    same-length-2
-    returns-2)
+    (tie.spec cast-place place-requires cast-place-2 place-requires-2 by-orders-requires same-length returns)

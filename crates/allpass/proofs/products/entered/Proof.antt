@@ -1,10 +1,10 @@
--- `allpass::products::entered` meets its contract: by its quotient, by two differences, or by the sum of two numbers.
+-- `allpass::products::entered` meets its contract: by its quotient, or by the sum of two numbers.
 -- Assumes nothing.
 use mathlib.Core.Path.{_≡_, ap, _∙_}
 use Prim.Native.Nat.{ℕ}
 use native.Mathlib.Omega.{arith}
 use borrow.Author.Needs.{needs}
-use lib.IntN.{ℤ, _+ℤ_, _-ℤ_, +ℤ-comm}
+use lib.IntN.{ℤ, _+ℤ_, _-ℤ_}
 use mir.Syntax.{w64}
 use mir.Val.{toZ, ofZ}
 use Rattle.integer.specs.Cut.{R}
@@ -50,12 +50,12 @@ module _ (c : tie.After-struct-told3) where
 
   older-read : toZ w64 (ofZ w64 (start .args .k .older)) ≡ k .older
   older-read =
-      read w64 (start .args .k .older) (c .before .struct-told2 .given .1 .1 .0 .1)
+      read w64 (start .args .k .older) (c .struct-told3 .given .1 .1 .0 .1)
       (ap (λ (k : Products). k .older) (start .pre .1))
 
   newest-read : toZ w64 (ofZ w64 (start .args .k .newest)) ≡ k .newest
   newest-read =
-      read w64 (start .args .k .newest) (c .struct-told3 .given .1 .0 .1)
+      read w64 (start .args .k .newest) (c .before .struct-told2 .given .1 .0 .1)
       (ap (λ (k : Products). k .newest) (start .pre .1))
 
   -- A1·v1 + .. + AN·vN
@@ -64,44 +64,28 @@ module _ (c : tie.After-struct-told3) where
       let l = c .before .before .if1 .left in
       older-sum (start .args .c) (start .args .v) N (omega (arith, l)) (start .pre .0 .most)
 
-less-ahead-requires : tie.Need-less-ahead-requires
-less-ahead-requires c κs =
-    let t = c .before in (
-      omega (arith, start t .pre .0 .sample),
-      rw (older-read t) (omega (arith, fit t .older)),
-      rw (newest-read t) (omega (arith, fit t .newest)),
-    )
-
-returns-2 : tie.Need-returns-2
-unfolding inner
-returns-2 c =
-    let t = c .before .before in
-    rw (older-read t, newest-read t) at (c .less-ahead .ensures)
-    ∙ ap (λ (u : ℤ). start t .args .f .n -ℤ R u) (+ℤ-comm (k t .older) (k t .newest) ∙ is-sum t)
-
 plus-requires : tie.Need-plus-requires
 plus-requires c κs =
-    let t = c .before in
-    (rw (newest-read t) (omega (arith, fit t .newest)), rw (older-read t) (omega (arith, fit t .older)))
+    (rw (newest-read c) (omega (arith, fit c .newest)), rw (older-read c) (omega (arith, fit c .older)))
 
-summed : (c : tie.After-plus) → let t = c .before .before in
+summed : (c : tie.After-plus) → let t = c .before in
     c .plus .result .n ≡ dot (taps (N t) (start t .args .c)) (held (N t) (start t .args .v))
 summed c =
-    let t = c .before .before in
+    let t = c .before in
     rw (newest-read t, older-read t) at (c .plus .ensures) ∙ is-sum t
 
 less-requires : tie.Need-less-requires
 less-requires c κs =
-    let s = start (c .before .before) in
+    let s = start (c .before) in
     let f = s .pre .0 in (
       omega (arith, f .sample),
       rw (summed c) (dot-small (taps (s .args .order) (s .args .c)) (f .taps-small) (f .state-within)),
     )
 
-returns-3 : tie.Need-returns-3
+returns-2 : tie.Need-returns-2
 unfolding inner
-returns-3 c =
-    let s = start (c .before .before .before) in
+returns-2 c =
+    let s = start (c .before .before) in
     c .less .ensures ∙ ap (λ (u : ℤ). s .args .f .n -ℤ R u) (summed (c .before))
 
 pub entered-spec : {M : Type 1} → statement M
@@ -110,8 +94,6 @@ entered-spec =
     (tie.spec
     inner-requires
     returns
-    less-ahead-requires
-    returns-2
     plus-requires
     less-requires
-    returns-3)
+    returns-2)

@@ -36,59 +36,59 @@ use Rattle.loops.proofs.run.run.Statement.{statement}
 use Rattle.loops.proofs.run.run.Tie as tie
 
 abbrev Inv-loop : tie.InvT-loop
-Inv-loop line₀ order coming fed h e loss at from far buffer₀ v₀ k₀ u₀ last₀ i₀ line buffer v k u last i =
+Inv-loop line₀ order coming fed h e from far buffer₀ v₀ k₀ u₀ last₀ i₀ line buffer v k u last i =
     Went fed buffer₀ h line₀ buffer
     (afterOf h (record { ran = record { state = v; last = last; done = i }; next = u })) line i
     × (k ≡ productsOf order (h .filter .coefficients) v)
 
 abbrev μ-loop : tie.MeasureT-loop
-μ-loop line₀ order coming fed h e loss at from far buffer₀ v₀ k₀ u₀ last₀ i₀ line buffer v k u last i =
+μ-loop line₀ order coming fed h e from far buffer₀ v₀ k₀ u₀ last₀ i₀ line buffer v k u last i =
     length buffer₀ - i
 
 kept-requires : tie.Need-kept-requires Inv-loop μ-loop
-kept-requires c κs = let s = c .before in keeps (s .args .h .filter) (s .pre .0 .0 .fit .filter) (s .pre .1 .0 .0)
+kept-requires c κs = keeps (c .args .h .filter) (c .pre .0 .0 .fit .filter) (c .pre .1 .0 .0)
 
 -- the state of the filter is all that is kept of it
-is-state : (c : tie.After-kept Inv-loop μ-loop) → c .kept .result ≡ c .before .before .args .h .filter .state
+is-state : (c : tie.After-kept Inv-loop μ-loop) → c .kept .result ≡ c .before .args .h .filter .state
 is-state c =
-    let s = c .before .before in
+    let s = c .before in
     kept-self (s .args .h .filter) (s .pre .0 .0 .fit .filter) (s .pre .1 .0 .0) (c .kept .ensures)
 
 of-state-requires : tie.Need-of-state-requires Inv-loop μ-loop
 of-state-requires c κs =
-    let s = c .before .before .before in
+    let s = c .before in
     let f = s .args .h .filter in
     rw (s .pre .1 .0 .0)
-    (subst (λ (v : State). Fed (f .tuning .order) (f .coefficients) v (pos 0)) (sym (is-state (c .before)))
+    (subst (λ (v : State). Fed (f .tuning .order) (f .coefficients) v (pos 0)) (sym (is-state c))
     (tuned-fed (s .pre .0 .0 .fit .filter) {x = pos 0} (omega arith)))
 
 kept-requires-2 : tie.Need-kept-requires-2 Inv-loop μ-loop
 kept-requires-2 c κs =
-    let s = c .before .before .before .before .before in
+    let s = c .before .before in
     let a = s .args in
-    keeps-ahead (a .h .waiting) (a .coming) (length (a .buffer .now)) (a .h .advance) (a .e) (s .pre .1 .0 .4)
+    keeps-ahead (a .h .waiting) (a .coming) (length (a .buffer .now)) (a .h .advance) (a .e) (s .pre .1 .0 .2)
     (s .pre .0 .0 .fit .waiting)
 
 loop-holds : tie.Need-loop-holds Inv-loop μ-loop
 loop-holds c =
     let j = c .before in
-    let q = j .before .before .before .before in
-    let s = q .before .before in
+    let q = j .before .before in
+    let s = q .before in
     let h = s .args .h in
     let fit = s .pre .0 .0 .fit in
     let u = j .kept2 .result in
     let n = length (s .args .buffer .now) in
-    let r = rests (h .waiting) (s .args .coming) n (h .advance) (s .args .e) u (s .pre .1 .0 .4) (fit .waiting)
+    let r = rests (h .waiting) (s .args .coming) n (h .advance) (s .args .e) u (s .pre .1 .0 .2) (fit .waiting)
     (j .kept2 .ensures) in (
       started (begins (h .waiting) h (q .kept .result) u refl (is-state q) r (fit .waiting) (fit .at))
           (s .pre .0 .1) (s .pre .0 .0),
-      c .before .before .before .of-state .ensures,
+      c .before .before .of-state .ensures,
     )
 
 -- where a pass begins, or the loop ends
 module _ (p : tie.At-loop Inv-loop μ-loop) where
   abbrev start : tie.Start Inv-loop μ-loop
-  start = p .before .before .before .before .before .before .before .before
+  start = p .before .before .before .before .before
 
   abbrev led : Led
   led = record { ran = record { state = p .loop .v; last = p .loop .last; done = p .loop .i }; next = p .loop .u }
@@ -131,7 +131,7 @@ module _ (c : tie.In-loop Inv-loop μ-loop) where
       subst
       (λ (k : Head). Passed (fedOf (a .fed) 0 b) (stateOf h (a .line .now)) (fedOf (a .fed) (l .i) (l .buffer)) k
       (l .line) (l .i))
-      (still (h .waiting) h (led pass) (a .coming) (length b) (a .e) (first .pre .1 .0 .4) more-left)
+      (still (h .waiting) h (led pass) (a .coming) (length b) (a .e) (first .pre .1 .0 .2) more-left)
       (l .inv .0)
 
   valid : Valid (ranOf h (led pass .ran)) (pass .loop .line)
@@ -197,11 +197,10 @@ module _ (c : tie.After-read2 Inv-loop μ-loop) where
 
 carry-requires : tie.Need-carry-requires Inv-loop μ-loop
 carry-requires c κs =
-    let t = c .before .before .before in
-    let w = within t in
-    let x = for-filter t .read .result .n in (
+    let w = within c in
+    let x = for-filter c .read .result .n in (
       subst (λ (N : ℕ). Fed N (h w .filter .coefficients) (pass w .loop .v) x) (sym (first w .pre .1 .0 .0))
-          (tuned-fed (valid w .fit .filter) (small t)),
+          (tuned-fed (valid w .fit .filter) (small c)),
       pass w .loop .inv .1,
     )
 
@@ -212,18 +211,18 @@ is-loud-requires : tie.Need-is-loud-requires Inv-loop μ-loop
 is-loud-requires c κs = c .heard .ensures .1
 
 same-length : tie.Need-same-length Inv-loop μ-loop
-same-length c = same (pass (within (c .before .before .before .before .before .before .before .before)))
+same-length c = same (pass (within (c .before .before .before .before)))
 
 returns : tie.Need-returns Inv-loop μ-loop
-returns c = pass (within (c .before .before .before .before .before .before .before .before)) .loop .inv .0
+returns c = pass (within (c .before .before .before .before)) .loop .inv .0
 
 -- once its output is known to be within the limits
-module _ (c : tie.Else3 Inv-loop μ-loop) where
+module _ (c : tie.Else1 Inv-loop μ-loop) where
   abbrev took : tie.After-carry Inv-loop μ-loop
-  took = c .before .before .before .before
+  took = c .before .before .before
 
   abbrev read : tie.After-read2 Inv-loop μ-loop
-  read = took .before .before .before .before
+  read = took .before
 
   abbrev around : tie.In-loop Inv-loop μ-loop
   around = within read
@@ -233,7 +232,7 @@ module _ (c : tie.Else3 Inv-loop μ-loop) where
   y = c .before .before .heard .result .n
 
   y-small : natAbs y ≤ M
-  y-small = leb-true (natAbs y) M (not-false (leb (natAbs y) M) (sym (c .before .is-loud .ensures) ∙ c .if3 .left))
+  y-small = leb-true (natAbs y) M (not-false (leb (natAbs y) M) (sym (c .before .is-loud .ensures) ∙ c .if1 .left))
 
   out-is : clip y ≡ out (tapsOf (f around)) (filterOf (f around)) (for-filter read .read .result .n)
   out-is =
@@ -267,27 +266,26 @@ newest-requires c κs =
     let e = c .before in
     let r = around e in
     let v = valid r .fit in
-    let loss = subst (λ (g : ℕ). g ≤ 65535) (sym (first r .pre .1 .0 .2)) (v .loss) in
-    ((r .loop-test .taken, input-small e), (loss, y-small e, v .last))
+    ((r .loop-test .taken, input-small e), (v .loss, y-small e, v .last))
 
 led-requires : tie.Need-led-requires Inv-loop μ-loop
 led-requires c κs =
-    let t = read (c .before .before .before) in
+    let t = read (c .before .before) in
     let r = within t in
     let s = first r .pre .1 in
     let a = first r .args in
-    feeds (h r .waiting) (h r) (led (pass r)) (a .coming) (length (a .buffer .now)) (a .e) (s .0 .4)
+    feeds (h r .waiting) (h r) (led (pass r)) (a .coming) (length (a .buffer .now)) (a .e) (s .0 .2)
     (so-far r .1) (long t) (s .1 .1) (s .1 .3) (more-left r) (t .read2 .ensures)
 
 write-requires : tie.Need-write-requires Inv-loop μ-loop
 write-requires c κs =
-    let e = c .before .before .before .before .before in
+    let e = c .before .before .before .before in
     (around e .loop-test .taken, y-small e)
 
 add-write : tie.Need-add-write Inv-loop μ-loop
 add-write c =
     let r = around (c .before .before .before .before .before .before .before .before) in
-    omega (arith, here r, inside r, first r .pre .1 .0 .3)
+    omega (arith, here r, inside r)
 
 write-requires-2 : tie.Need-write-requires-2 Inv-loop μ-loop
 write-requires-2 c κs =
@@ -297,8 +295,8 @@ write-requires-2 c κs =
     let l = pass r .loop in
     let a = first r .args in
     let x = inputOf (a .fed) (l .buffer) (l .i) in
-    let u = (x +ℤ pos 0) +ℤ Q (pos (a .loss) *ℤ (y e +ℤ l .last .n)) in (
-      omega (arith, c .write-arg2 .given .0 .1, here r, inside r, first r .pre .1 .0 .3),
+    let u = (x +ℤ pos 0) +ℤ Q (pos (a .h .loss) *ℤ (y e +ℤ l .last .n)) in (
+      omega (arith, c .before .write-arg2 .given .0 .1, here r, inside r),
       subst (λ (z : ℤ). natAbs z ≤ M) (sym (n .newest .ensures)) (clip-abs u),
     )
 
@@ -306,7 +304,7 @@ write-requires-2 c κs =
 abbrev moved : tie.After-k Inv-loop μ-loop → tie.After-write2 Inv-loop μ-loop
 moved c = c .before .before
 
-abbrev kept : tie.After-write2 Inv-loop μ-loop → tie.Else3 Inv-loop μ-loop
+abbrev kept : tie.After-write2 Inv-loop μ-loop → tie.Else1 Inv-loop μ-loop
 kept c = c .before .before .before .before .before .before .before .before .before
 
 add-i : tie.Need-add-i Inv-loop μ-loop
@@ -326,18 +324,15 @@ loop-again c =
     let s = first r .args in
     let p = first r .pre .1 in
     let x = inputOf (s .fed) (l .buffer) (l .i) in
-    let w = b .before .before .before in
+    let w = b .before .before .before .before in
     let e = w .before .before .led in
-    let q = w .before .before .before .before .newest in
+    let q = w .before .before .before .newest in
     let o = t .carry .ensures in
-    let brought = subst
-    (λ (g : ℕ). q .result .n ≡ clip ((x +ℤ pos 0) +ℤ Q (pos g *ℤ (y k +ℤ l .last .n))))
-    (p .0 .2) (q .ensures) in
     let u = e .result in
     let made = taken-circulates (l .line) (at r) (long g) (inside r) (valid r .fit .filter) (place r)
     (for-filter g .read .ensures) (small g) (next-is k) (y-small k) (out-is k) (s .h .loss) (l .last .n) x
-    brought (ap (λ (n : ℕ). n + l .i) (p .0 .3) ∙ here r) (on r) (b .write2 .ensures) in
-    let m = moves (s .h .waiting) (s .h) (led (pass r)) (s .coming) (length (s .buffer .now)) (s .e) u (p .0 .4)
+    (q .ensures) (here r) (on r) (b .write2 .ensures) in
+    let m = moves (s .h .waiting) (s .h) (led (pass r)) (s .coming) (length (s .buffer .now)) (s .e) u (p .0 .2)
     (so-far r .1) (long g) (p .1 .1) (p .1 .3) (more-left r) (g .read2 .ensures) (e .ensures) in (
       more (so-far r) (left r) (input-fed (s .fed) (l .buffer) (l .i))
           (goes (s .h .waiting) (s .h) (led (pass r)) u (p .0 .1) made m (so-far r .1))
