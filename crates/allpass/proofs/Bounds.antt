@@ -4,7 +4,7 @@ use mathlib.Core.Path.{_≡_, refl, ap}
 use mathlib.Core.List.{List, [], _∷_, reverse, reverseAux}
 use Prim.Native.Nat.{_^_, ℕ, zero, suc, _+_, _*_, _≤_}
 use native.Mathlib.Omega.{arith}
-use native.Mathlib.Nat.{mul-le-mul-left, mul-le-mul-right}
+use native.Mathlib.Nat.{le-trans, mul-le-mul-left, mul-le-mul-right}
 use lib.IntN.{ℤ, pos, natAbs, _+ℤ_, _-ℤ_, _*ℤ_, +ℤ-idr, *ℤ-zero}
 use lib.ListN.{length}
 use Rattle.integer.specs.Rounding.{M, clip}
@@ -14,7 +14,7 @@ use Rattle.integer.proofs.Rounding.{clip-abs, clip-near}
 use Rattle.integer.proofs.Cut.{R-abs, R-near}
 use Rattle.thiran.specs.Coefficients.{norm}
 use Rattle.allpass.specs.Allpass.{dot, rest, shift, final, inner, next, out}
-use Rattle.allpass.specs.Bounds.{Within, none, more, Close, half}
+use Rattle.allpass.specs.Bounds.{Within, none, more, Close, share}
 
 -- ---- lists of numbers within B
 pub head-within : {B : ℕ} {v : List ℤ} (x : ℤ) → Within B (x ∷ v) → natAbs x ≤ B
@@ -107,14 +107,14 @@ final-close x y k none = k
 final-close x y k (more {x = x′} {y = y′} p h) = final-close x′ y′ p h
 
 -- ---- R of a sum of products
-module _ (A : List ℤ) (n : norm A ≤ 32768) where
-  R-within : {v : List ℤ} → Within (2 * M) v → natAbs (R (dot A v)) ≤ M
-  R-within {v} h = omega (arith, R-abs (dot A v), dot-within A h, mul-le-mul-right (2 * M) n)
+R-within : (A : List ℤ) → norm A ≤ 32768 → {v : List ℤ} → Within (2 * M) v → natAbs (R (dot A v)) ≤ M
+R-within A n {v} h = omega (arith, R-abs (dot A v), dot-within A h, mul-le-mul-right (2 * M) n)
 
-  pub R-close : {v u : List ℤ} {D : ℕ} → Close D v u → natAbs (R (dot A v) -ℤ R (dot A u)) ≤ half D
-  R-close {v} {u} {D} h = R-near (dot A v) (dot A u) D (omega (arith, dot-close A h, mul-le-mul-right D n))
+pub R-close : (A : List ℤ) {v u : List ℤ} {D : ℕ} → Close D v u
+    → natAbs (R (dot A v) -ℤ R (dot A u)) ≤ share (norm A) D
+R-close A {v} {u} {D} h = R-near (dot A v) (dot A u) (norm A * D) (dot-close A h)
 
--- ---- one sample
+-- ---- one sample: within 2M
 module _ (A : List ℤ) (n : norm A ≤ 32768) (f : ℤ) where
   pub inner-within : {v : List ℤ} → Within (2 * M) v → natAbs f ≤ M → natAbs (inner A v f) ≤ 2 * M
   unfolding inner
@@ -124,20 +124,26 @@ module _ (A : List ℤ) (n : norm A ≤ 32768) (f : ℤ) where
   unfolding next
   next-within {v} h k = shift-within (inner A v f) (inner-within h k) h
 
-  pub inner-close : {v u : List ℤ} {D : ℕ} → Close D v u → natAbs (inner A v f -ℤ inner A u f) ≤ half D
+-- ---- and no further apart
+pub share-less : {n : ℕ} (D : ℕ) → n ≤ 65536 → share n D ≤ D
+share-less D n = omega (arith, mul-le-mul-right D n)
+
+module _ (A : List ℤ) (f : ℤ) {v u : List ℤ} {D : ℕ} (h : Close D v u) where
+  pub inner-close : natAbs (inner A v f -ℤ inner A u f) ≤ share (norm A) D
   unfolding inner
-  inner-close {v} {u} h = sub-near f (R (dot A v)) (R (dot A u)) (R-close A n h)
+  inner-close = sub-near f (R (dot A v)) (R (dot A u)) (R-close A h)
 
-  pub next-close : {v u : List ℤ} {D : ℕ} → Close D v u → Close D (next A v f) (next A u f)
+  pub next-close : norm A ≤ 65536 → Close D (next A v f) (next A u f)
   unfolding next
-  next-close {v} {u} h = shift-close (inner A v f) (inner A u f) (omega (arith, inner-close h)) h
+  next-close n = shift-close (inner A v f) (inner A u f) (le-trans inner-close (share-less D n)) h
 
-  pub out-close : {v u : List ℤ} {D : ℕ} → Close D v u → natAbs (out A v f -ℤ out A u f) ≤ D + half D
+  pub out-close : norm A ≤ 65536 → natAbs (out A v f -ℤ out A u f) ≤ D + share (norm A) D
   unfolding out
-  out-close {v} {u} {D} h =
+  out-close n =
       let r = R (dot (reverse A) (next A v f)) in
       let s = R (dot (reverse A) (next A u f)) in
-      clip-near (final (pos 0) v +ℤ r) (final (pos 0) u +ℤ s) (D + half D)
+      let e : norm (reverse A) ≡ norm A = omega (arith, norm-reverse A []) in
+      clip-near (final (pos 0) v +ℤ r) (final (pos 0) u +ℤ s) (D + share (norm A) D)
       (add-near (final (pos 0) v) (final (pos 0) u) r s
       (final-close (pos 0) (pos 0) (omega arith) h)
-      (R-close (reverse A) (omega (arith, norm-reverse A [])) (next-close h)))
+      (rw e at (R-close (reverse A) (next-close n))))

@@ -4,15 +4,15 @@ use mathlib.Core.Path.{_≡_, refl, ap, subst, _∙_}
 use mathlib.Core.List.{List, [], _∷_, _++_}
 use Prim.Native.Nat.{ℕ, zero, suc, _+_, _*_, _-_, _^_, _≤_}
 use native.Mathlib.Omega.{arith}
-use native.Mathlib.Nat.{le-trans}
+use native.Mathlib.Nat.{le-trans, mul-le-mul-right, sub-zero}
 use lib.IntN.{ℤ, natAbs, _-ℤ_}
 use lib.ListN.{length, take, drop, take-append-drop, length-take, length-drop}
 use Rattle.integer.specs.Rounding.{M}
 use Rattle.thiran.specs.Coefficients.{norm}
 use Rattle.allpass.specs.Allpass.{shift, inner, next, run}
-use Rattle.allpass.specs.Bounds.{Within, none, more, Close, half, Bounded}
+use Rattle.allpass.specs.Bounds.{Within, none, more, Close, half, share, shares, Contracts, Bounded}
 use Rattle.allpass.proofs.Bounds.{length-next, inner-within, next-within}
-use Rattle.allpass.proofs.Bounds.{inner-close, next-close, out-close}
+use Rattle.allpass.proofs.Bounds.{share-less, inner-close, next-close, out-close}
 
 -- ---- the first j places are at most D apart, and the others at most E
 data Mixed (D E : ℕ) : ℕ → List ℤ → List ℤ → Type 0 where
@@ -60,54 +60,68 @@ pub half-pow : (m : ℕ) → half (2 ^ m) ≡ 2 ^ (m - 1)
 half-pow zero = refl
 half-pow (suc m) = let e : half (2 ^ suc m) ≡ 2 ^ m = omega arith in e ∙ ap (λ (i : ℕ). 2 ^ i) (omega arith)
 
-module _ (A : List ℤ) (n : norm A ≤ 32768) where
-  pub run-within : (fs : List ℤ) {v : List ℤ} → Within (2 * M) v → Within M fs → Within (2 * M) (run A v fs)
-  run-within [] h k = h
-  run-within (f ∷ fs) h (more p k) = run-within fs (next-within A n f h p) k
+pub run-within : (A : List ℤ) → norm A ≤ 32768 → (fs : List ℤ) {v : List ℤ} → Within (2 * M) v → Within M fs
+    → Within (2 * M) (run A v fs)
+run-within A n [] h k = h
+run-within A n (f ∷ fs) h (more p k) = run-within A n fs (next-within A n f h p) k
 
+module _ (A : List ℤ) (n : norm A ≤ 65536) where
   -- any number of samples keeps two states as close as they were
   pub run-keeps : (fs : List ℤ) {v u : List ℤ} {D : ℕ} → Close D v u → Close D (run A v fs) (run A u fs)
   run-keeps [] h = h
-  run-keeps (f ∷ fs) h = run-keeps fs (next-close A n f h)
+  run-keeps (f ∷ fs) h = run-keeps fs (next-close A f h n)
 
-  run-mixed : (fs : List ℤ) {v u : List ℤ} {E j : ℕ} (k : ℕ) → length fs + j ≡ k → Mixed (half E) E j v u
-      → Mixed (half E) E k (run A v fs) (run A u fs)
+  run-mixed : (fs : List ℤ) {v u : List ℤ} {E j : ℕ} (k : ℕ) → length fs + j ≡ k
+      → Mixed (share (norm A) E) E j v u → Mixed (share (norm A) E) E k (run A v fs) (run A u fs)
   unfolding next
-  run-mixed [] {v} {u} {E} k e h = subst (λ (i : ℕ). Mixed (half E) E i v u) (omega arith) h
-  run-mixed (f ∷ fs) {v} {u} k e h =
-      let w = inner-close A n f (either (omega arith) h) in
+  run-mixed [] {v} {u} {E} k e h = subst (λ (i : ℕ). Mixed (share (norm A) E) E i v u) (omega arith) h
+  run-mixed (f ∷ fs) {v} {u} {E} k e h =
+      let w = inner-close A f (either (share-less E n) h) in
       run-mixed fs k (omega arith) (shift-new (inner A v f) (inner A u f) w h)
 
-  pub run-halves : (fs : List ℤ) {v u : List ℤ} {D : ℕ} → length v ≤ length fs → Close D v u
-      → Close (half D) (run A v fs) (run A u fs)
-  run-halves fs {v} l h =
+  -- as many as the order leave the share of it
+  pub run-turn : (fs : List ℤ) {v u : List ℤ} {D : ℕ} → length v ≤ length fs → Close D v u
+      → Close (share (norm A) D) (run A v fs) (run A u fs)
+  run-turn fs {v} l h =
       all-new (omega (arith, length-run A v fs)) (run-mixed fs (length fs) (omega arith) (all-old h))
 
-  -- and k times as many as the order halve it k times, as far as 1
-  pub run-many : (k : ℕ) (fs : List ℤ) {v u : List ℤ} (m : ℕ) → length v * k ≤ length fs → Close (2 ^ m) v u
-      → Close (2 ^ (m - k)) (run A v fs) (run A u fs)
-  run-many zero fs {v} {u} m l h = run-keeps fs (subst (λ (i : ℕ). Close (2 ^ i) v u) (omega arith) h)
-  run-many (suc k) fs {v} {u} m l h =
-      let p = take (length v) fs in
-      let q = drop (length v) fs in
-      let once : Close (2 ^ (m - 1)) (run A v p) (run A u p)
-      = rw (half-pow m) at (run-halves p (omega (arith, length-take (length v) fs)) h) in
-      let room : length (run A v p) * k ≤ length q
-      = rw (length-run A v p, length-drop) (omega arith) in
-      let then : Close (2 ^ (m - suc k)) (run A (run A v p) q) (run A (run A u p) q)
-      = subst (λ (i : ℕ). Close (2 ^ i) (run A (run A v p) q) (run A (run A u p) q)) (omega arith)
-      (run-many k q (m - 1) room once) in
-      subst (λ (l : List ℤ). Close (2 ^ (m - suc k)) (run A v l) (run A u l)) (take-append-drop (length v) fs)
+  -- and k times as many, k shares
+  pub run-many : (k : ℕ) (fs : List ℤ) {v u : List ℤ} {D : ℕ} → length v * k ≤ length fs → Close D v u
+      → Close (shares (norm A) D k) (run A v fs) (run A u fs)
+  run-many zero fs l h = run-keeps fs h
+  run-many (suc k) fs {v} {u} {D} l h =
+      let i = length v * k in
+      let p = take i fs in
+      let q = drop i fs in
+      let before = run-many k p (omega (arith, length-take i fs)) h in
+      let then = run-turn q (omega (arith, length-run A v p, length-drop i fs)) before in
+      subst (λ (l : List ℤ). Close (shares (norm A) D (suc k)) (run A v l) (run A u l)) (take-append-drop i fs)
       (rw (run-append A v p q, run-append A u p q) then)
 
-  pub converges : (k : ℕ) (fs v u : List ℤ) → length v * k ≤ length fs → Close (2 ^ 24) v u
-      → Close (2 ^ (24 - k)) (run A v fs) (run A u fs)
-  converges k fs v u l h = run-many k fs 24 l h
+pub contracts : (A : List ℤ) → norm A ≤ 65536 → Contracts A
+contracts A n = record { turns = run-many A n; output = λ f h. out-close A f h n }
+
+-- ---- the share of at most 32,768 is at most half, upward
+pub share-half : {n : ℕ} (D : ℕ) → n ≤ 32768 → share n D ≤ half D
+share-half D h = omega (arith, mul-le-mul-right D h)
+
+pub shares-pow : {n : ℕ} (D m k : ℕ) → n ≤ 32768 → D ≤ 2 ^ m → shares n D k ≤ 2 ^ (m - k)
+shares-pow D m zero h l = rw sub-zero l
+shares-pow {n} D m (suc k) h l =
+    let e : half (2 ^ (m - k)) ≡ 2 ^ (m - suc k)
+    = half-pow (m - k) ∙ ap (λ (i : ℕ). 2 ^ i) (omega arith) in
+    omega (arith, share-half (shares n D k) h, shares-pow D m k h l)
+
+pub wider : {D E : ℕ} {v u : List ℤ} → D ≤ E → Close D v u → Close E v u
+wider l none = none
+wider l (more p h) = more (le-trans p l) (wider l h)
 
 pub bounded : (A : List ℤ) → norm A ≤ 32768 → Bounded A
-bounded A n = record {
-  within = λ f h k. inner-within A n f h k;
-  halved = λ fs l h. run-halves A n fs l h;
-  output = λ f h. out-close A n f h;
-  converged = converges A n;
-}
+bounded A n =
+    let c = contracts A (omega arith) in
+    record {
+      within = λ f h k. inner-within A n f h k;
+      halved = λ fs {v} {u} {D} l h. wider (share-half D n) (run-turn A (omega arith) fs l h);
+      output = λ f {D} h. omega (arith, c .output f h, share-half D n);
+      converged = λ k fs v u l h. wider (shares-pow (2 ^ 24) 24 k n (omega arith)) (c .turns k fs l h);
+    }

@@ -2,11 +2,12 @@
 -- Statements alone: proofs/Bounds.antt and proofs/Contraction.antt prove them. Assumes nothing.
 use mathlib.Core.Path.{_≡_}
 use mathlib.Core.List.{List, [], _∷_}
-use Prim.Native.Nat.{ℕ, _+_, _*_, _-_, _/_, _^_, _≤_}
+use Prim.Native.Nat.{ℕ, zero, suc, _+_, _*_, _-_, _/_, _^_, _≤_}
 use lib.IntN.{ℤ, natAbs, _+ℤ_, _-ℤ_, _*ℤ_}
 use lib.ListN.{length}
 use Rattle.integer.specs.Rounding.{clip, M}
 use Rattle.integer.specs.Cut.{R}
+use Rattle.thiran.specs.Coefficients.{norm}
 use Rattle.allpass.specs.Allpass.{inner, next, out, run}
 
 -- each number of v is of magnitude at most B
@@ -22,6 +23,24 @@ pub data Close (D : ℕ) : List ℤ → List ℤ → Type 0 where
 -- half of D, upward
 abbrev pub half : ℕ → ℕ
 half D = (D + 1) / 2
+
+-- n·D/65,536, upward: the share of D that coefficients leave whose magnitudes add up to n
+abbrev pub share : ℕ → ℕ → ℕ
+share n D = (n * D + 65535) / 65536
+
+-- and what k turns of it leave
+abbrev pub shares : ℕ → ℕ → ℕ → ℕ
+shares n D zero = D
+shares n D (suc k) = share n (shares n D k)
+
+-- of coefficients A whose magnitudes add up to at most 65,536: states D apart are the share of D apart after as
+-- many samples as the filter has an order, k shares after k times as many, and their outputs D and the share
+pub record Contracts (A : List ℤ) : Type 0 where
+  pub turns :
+      (k : ℕ) (fs : List ℤ) {v u : List ℤ} {D : ℕ} → length v * k ≤ length fs → Close D v u
+      → Close (shares (norm A) D k) (run A v fs) (run A u fs)
+  pub output : {v u : List ℤ} (f : ℤ) {D : ℕ} → Close D v u
+      → natAbs (out A v f -ℤ out A u f) ≤ D + share (norm A) D
 
 -- of coefficients A whose magnitudes add up to at most 32,768
 pub record Bounded (A : List ℤ) : Type 0 where

@@ -115,8 +115,8 @@ pub Q-abs : (u : ℤ) → natAbs (Q u) ≡ natAbs u / 131072
 unfolding Q
 Q-abs u = cut-abs u 131072
 
--- numbers at most 32,768 E apart are cut to numbers at most half of E apart, upward
-pub R-near : (u v : ℤ) (E : ℕ) → natAbs (u -ℤ v) ≤ 32768 * E → natAbs (R u -ℤ R v) ≤ (E + 1) / 2
+-- numbers at most E apart are cut to numbers at most E/65,536 apart, upward
+pub R-near : (u v : ℤ) (E : ℕ) → natAbs (u -ℤ v) ≤ E → natAbs (R u -ℤ R v) ≤ (E + 65535) / 65536
 unfolding R
 R-near u v E h = omega (arith, cut-near 65536 (lit< tt) u v)
 

@@ -11,9 +11,10 @@ use borrow.Author.Tests.{eqb-false}
 use Rattle.rule.specs.Calls.{Call, Opening, block, instant, number}
 use Rattle.rule.specs.State.{State, fresh, call, put, from, puts, numbers}
 use Rattle.rule.specs.Click.{ClickFigure}
+use Rattle.rule.specs.Sharp.{SharpFigure}
 use Rattle.rule.proofs.Refusals.{refuses}
 use Rattle.rule.proofs.Puts.{put-none}
-use Rattle.rule.proofs.Click.{click}
+use Rattle.rule.proofs.Click.{click, sharply}
 use Rattle.voice.specs.declared.Head.{Head}
 use Rattle.voice.specs.declared.Answer.{Answer}
 use Rattle.voice.specs.Struct.{voiceOf, stateOf}
@@ -77,4 +78,5 @@ chained o r p {cs = cs} c =
       state = f .state ∙ ap (λ (v : State). from v cs) e;
       valid = f .valid;
       click = subst (λ (y : List ℤ). ClickFigure o cs y) (sym i) (click o cs);
+      sharp = subst (λ (y : List ℤ). SharpFigure o cs y) (sym i) (sharply o cs);
     }

@@ -1,21 +1,27 @@
--- Demand 3 holds for every opening and every list of calls.
+-- Demand 3 holds for every opening and every list of calls, by the sharper figure of the change's own tuning.
 -- Assumes nothing.
 use mathlib.Core.List.{List}
-use Prim.Native.Nat.{_≤_}
+use Prim.Native.Nat.{_+_, _-_, _/_, _≤_}
 use native.Mathlib.Omega.{arith}
+use native.Mathlib.Nat.{le-trans}
+use Rattle.thiran.specs.Coefficients.{norm}
+use Rattle.rule.specs.Voice.{A}
 use Rattle.rule.specs.Calls.{Call, Opening}
 use Rattle.rule.specs.History.{call, after}
 use Rattle.rule.specs.State.{fresh, puts}
-use Rattle.rule.specs.Click.{Figure, Click}
+use Rattle.rule.specs.Click.{Click}
+use Rattle.rule.specs.Sharp.{Sharpened, Sharp}
+use Rattle.rule.proofs.Filters.{norm-fit}
+use Rattle.rule.proofs.Sharp.{sharper}
 use Rattle.rule.proofs.Walk.{after-split}
 use Rattle.rule.proofs.Sound.{call-sound, after-sound}
 use Rattle.rule.proofs.Place.{Place, place-from, passed, begins}
 use Rattle.rule.proofs.Agreement.{agrees}
 
-pub click : (o : Opening) (cs : List Call) → Click o cs
-click o cs pre post c t a e m split k late since short = go (omega arith)
+pub sharply : (o : Opening) (cs : List Call) → Sharp o cs
+sharply o cs pre post c t a e m split k late since short = go (omega arith)
   where
-    go : e ≤ m → Figure (puts (fresh o) cs) (after o cs .s) t a e m
+    go : e ≤ m → Sharpened (puts (fresh o) cs) (after o cs .s) t a e m
     go due =
         let h = after o pre in
         let g = after-sound o pre in
@@ -24,3 +30,12 @@ click o cs pre post c t a e m split k late since short = go (omega arith)
         = rw (after-split o pre post c split)
         (place-from t (b .fit) a e m due post (call h c) (call-sound h c g) late (b .place)) in
         rw (agrees o cs .outputs) (passed t (b .fit) a e m due (after o cs) short end)
+
+pub click : (o : Opening) (cs : List Call) → Click o cs
+click o cs pre post c t a e m split k late since short =
+    let r = sharply o cs pre post c t a e m split k late since short in
+    let f = begins (after o pre) (after-sound o pre) k since .fit in
+    record {
+      near = le-trans (r .near) (sharper .under (norm (A t)) ((a + (m - e)) / t .N) (norm-fit f));
+      same = r .same;
+    }

@@ -2,71 +2,59 @@
 -- Assumes nothing.
 use mathlib.Core.Path.{_≡_, sym}
 use mathlib.Core.List.{List}
-use Prim.Native.Nat.{ℕ, zero, suc, _+_, _*_, _-_, _/_, _^_, _≤_, _<_}
+use Prim.Native.Nat.{ℕ, zero, suc, _*_, _-_, _/_, _≤_, _<_}
 use native.Mathlib.Omega.{arith}
-use native.Mathlib.Decide.{decLt}
-use native.Mathlib.Nat.{div-add-mod', le-trans}
+use native.Mathlib.Nat.{div-add-mod'}
 use lib.IntN.{ℤ, pos, natAbs, _-ℤ_}
 use lib.ListN.{length, length-replicate}
-use borrow.Author.Tests.{le-leb, lt-leb}
 use Rattle.integer.specs.Rounding.{M}
 use Rattle.integer.proofs.View.{absv, near, -v}
 use Rattle.thiran.specs.Coefficients.{norm}
 use Rattle.allpass.specs.Allpass as Filter
 use Rattle.allpass.specs.Allpass.{out, run}
-use Rattle.allpass.specs.Bounds.{Within, none, more, Close, half}
-use Rattle.allpass.proofs.Bounds.{out-close}
-use Rattle.allpass.proofs.Contraction.{converges}
+use Rattle.allpass.specs.Bounds.{Within, none, more, Close}
+use Rattle.allpass.proofs.Contraction.{contracts}
 use Rattle.rule.specs.Voice.{Tuning, A, rest}
 use Rattle.rule.specs.Calls.{window}
 use Rattle.rule.specs.History.{read, newState, new}
-use Rattle.rule.specs.Click.{figure}
+use Rattle.rule.specs.Sharp.{apart, sharp}
 use Rattle.rule.specs.Valid.{Tunable, Filled}
 use Rattle.rule.proofs.Read.{length-window}
 use Rattle.rule.proofs.Filters.{norm-fit}
 use Rattle.rule.proofs.New.{state-window, state-silent, state-filled}
 
--- the figure: states 2^(24 − k) apart give outputs that and half of it apart
-figure-is : (k : ℕ) → 2 ^ (24 - k) + half (2 ^ (24 - k)) ≤ figure k
-unfolding figure
-figure-is k = go (decLt 23 k)
-  where
-    go : Dec (23 < k) → 2 ^ (24 - k) + half (2 ^ (24 - k)) ≤ figure k
-    go (yes h) = let i : 24 - k ≡ 0 = omega arith in rw (lt-leb k 23 h, i) (omega arith)
-    go (no h) = let i : 24 - k ≡ suc (23 - k) = omega arith in rw (le-leb k 23 (omega arith), i) (omega arith)
-
-from-rest : {v : List ℤ} (N : ℕ) → N ≡ length v → Within (2 * M) v → Close (2 ^ 24) (Filter.rest N) v
+from-rest : {v : List ℤ} (N : ℕ) → N ≡ length v → Within (2 * M) v → Close (2 * M) (Filter.rest N) v
 from-rest zero e none = none
 from-rest zero e (more p h) = absurd (omega arith)
 from-rest (suc N) e none = absurd (omega arith)
 from-rest (suc N) e (more {x} p h) =
-    let q : natAbs (pos 0 -ℤ x) ≤ 2 ^ 24 = near (pos 0 -ℤ x) (omega (arith, -v (pos 0) x, absv x)) in
+    let q : natAbs (pos 0 -ℤ x) ≤ 2 * M = near (pos 0 -ℤ x) (omega (arith, -v (pos 0) x, absv x)) in
     more q (from-rest N (omega arith) h)
 
 -- the law itself, for any filter and any inputs fs: from rest, and from any state u that a filter reaches
-pub run-near : (a : List ℤ) (N : ℕ) (u fs : List ℤ) (x : ℤ) → norm a ≤ 32768 → Filled N u
-    → natAbs (out a (run a (Filter.rest N) fs) x -ℤ out a (run a u fs) x) ≤ figure (length fs / N)
+pub run-near : (a : List ℤ) (N : ℕ) (u fs : List ℤ) (x : ℤ) → norm a ≤ 65536 → Filled N u
+    → natAbs (out a (run a (Filter.rest N) fs) x -ℤ out a (run a u fs) x) ≤ sharp (norm a) (length fs / N)
+unfolding sharp apart
 run-near a N u fs x b h =
+    let c = contracts a b in
     let k = length fs / N in
     let room : length (Filter.rest N) * k ≤ length fs
     = rw (length-replicate N (pos 0)) (omega (arith, div-add-mod' (length fs) N)) in
-    le-trans
-    (out-close a b x (converges a b k fs (Filter.rest N) u room (from-rest N (sym (h .many)) (h .within))))
-    (figure-is k)
+    c .output x (c .turns k fs room (from-rest N (sym (h .many)) (h .within)))
 
 -- a state v of t's filter at step m, which was at rest a steps ago
 module _ (t : Tuning) (s : List ℤ) (m a : ℕ) (v : List ℤ)
     (e : v ≡ run (A t) (rest t) (window (read s m) (t .L) a)) where
-  pub figure-near : Tunable t → Within M s
-      → natAbs (out (A t) v (read s m (t .L)) -ℤ new t s m) ≤ figure (a / t .N)
+  pub sharp-near : Tunable t → Within M s
+      → natAbs (out (A t) v (read s m (t .L)) -ℤ new t s m) ≤ sharp (norm (A t)) (a / t .N)
   unfolding new
-  figure-near f h =
+  sharp-near f h =
       let u = newState t s (m - a) in
-      let law = run-near (A t) (t .N) u (window (read s m) (t .L) a) (read s m (t .L)) (norm-fit f)
-      (state-filled t s (m - a) f h) in
+      let law = run-near (A t) (t .N) u (window (read s m) (t .L) a) (read s m (t .L))
+      (omega (arith, norm-fit f)) (state-filled t s (m - a) f h) in
       rw (e, state-window t s m a) (rw (length-window (read s m) (t .L) a) at law)
 
-  pub figure-same : ((i : ℕ) → i < m - a → read s i (t .L) ≡ pos 0)
+  pub sharp-same : ((i : ℕ) → i < m - a → read s i (t .L) ≡ pos 0)
       → out (A t) v (read s m (t .L)) ≡ new t s m
   unfolding new
-  figure-same z = rw (e, state-window t s m a, state-silent t s (m - a) z)
+  sharp-same z = rw (e, state-window t s m a, state-silent t s (m - a) z)

@@ -13,12 +13,13 @@ use Rattle.allpass.specs.Allpass.{out}
 use Rattle.rule.specs.Voice.{Tuning, announced, Waiting, A, output, written}
 use Rattle.rule.specs.Calls.{Call, announce, instant, commit, number}
 use Rattle.rule.specs.History.{History, read, steps, ago, step, told, call, from, new}
-use Rattle.rule.specs.Click.{Change, announcing, instantly, committing, NoneBy, Figure}
+use Rattle.rule.specs.Click.{Change, announcing, instantly, committing, NoneBy}
+use Rattle.rule.specs.Sharp.{Sharpened}
 use Rattle.rule.specs.Valid.{Tunable}
 use Rattle.rule.proofs.Refusals.{refuses}
 use Rattle.rule.proofs.Read.{read-append}
 use Rattle.rule.proofs.New.{new-append}
-use Rattle.rule.proofs.Nearness.{figure-near, figure-same}
+use Rattle.rule.proofs.Nearness.{sharp-near, sharp-same}
 use Rattle.rule.proofs.Accepted.{accepted-fit}
 use Rattle.rule.proofs.Walk.{call-keeps, call-accepted}
 use Rattle.rule.proofs.Steps.{step-steps}
@@ -30,7 +31,7 @@ module _ (t : Tuning) (f : Tunable t) (a e m : ℕ) (due : e ≤ m) where
   -- step m is ahead, or lies behind, and then what is claimed of it holds
   pub data Place (h : History) : Type 0 where
     ahead : steps h ≤ m → Course t f a e m due h → Place h
-    behind : m < steps h → Figure (h .y) (h .s) t a e m → Place h
+    behind : m < steps h → Sharpened (h .y) (h .s) t a e m → Place h
 
   -- ---- more samples and outputs
   module _ (h : History) (x : ℤ) (g : Sound h) where
@@ -57,20 +58,20 @@ module _ (t : Tuning) (f : Tunable t) (a e m : ℕ) (due : e ≤ m) where
 
     -- step m is the one that the step takes
     arrives : h .voice .tuning ≡ t → e ≤ steps h → Ran h t (a + (steps h - e)) (h .voice .state)
-        → Figure (step h x .y) s′ t a e (steps h)
+        → Sharpened (step h x .y) s′ t a e (steps h)
     arrives q b r =
         let n = steps h in
         let k = a + (n - e) in
         let v = h .voice .state in
         record {
-          near = rw (output-now q, new-on n (omega arith)) (figure-near t (h .s) n k v r f (g .small));
+          near = rw (output-now q, new-on n (omega arith)) (sharp-near t (h .s) n k v r f (g .small));
           same =
               λ z. rw (output-now q, new-on n (omega arith))
-              (figure-same t (h .s) n k v r (λ i l. sym (read-on i (omega arith)) ∙ z i (omega arith)));
+              (sharp-same t (h .s) n k v r (λ i l. sym (read-on i (omega arith)) ∙ z i (omega arith)));
         }
 
     -- or lies behind
-    stays : m < steps h → Figure (h .y) (h .s) t a e m → Figure (step h x .y) s′ t a e m
+    stays : m < steps h → Sharpened (h .y) (h .s) t a e m → Sharpened (step h x .y) s′ t a e m
     stays l p = record {
       near = rw (output-on m l, new-on m (omega arith)) (p .near);
       same =
@@ -99,7 +100,7 @@ module _ (t : Tuning) (f : Tunable t) (a e m : ℕ) (due : e ≤ m) where
       go n (no k) (ahead l (ruling q b r z)) =
           let i : steps h ≡ m = omega arith in
           behind (omega arith)
-          (subst (λ (j : ℕ). Figure (step h x .y) (step h x .s) t a e j) i (arrives h x g q b r))
+          (subst (λ (j : ℕ). Sharpened (step h x .y) (step h x .s) t a e j) i (arrives h x g q b r))
 
   going-step : (h : History) (x : ℤ) → Going h → Going (step h x)
   going-step h x p = (step-sound h x (p .0), place-step h x (p .0) (p .1))
@@ -117,7 +118,7 @@ module _ (t : Tuning) (f : Tunable t) (a e m : ℕ) (due : e ≤ m) where
       (g, p) in
       place-from cs (call h c) (next .0) (l .1) (next .1)
 
-  pub passed : (h : History) → m < steps h → Place h → Figure (h .y) (h .s) t a e m
+  pub passed : (h : History) → m < steps h → Place h → Sharpened (h .y) (h .s) t a e m
   passed h l (ahead k c) = absurd (omega arith)
   passed h l (behind k p) = p
 

@@ -8,6 +8,7 @@ pub mod Refusals
 pub mod Keeps
 pub mod Plucks
 pub mod Click
+pub mod Sharp
 pub mod Demands
 pub mod Asked
 pub mod Literals

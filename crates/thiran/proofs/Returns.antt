@@ -23,7 +23,7 @@ use Rattle.thiran.proofs.Refusals.{takes, design-refused, design-taken}
 use Rattle.thiran.proofs.Theorems as T
 
 module _ (N d : ℕ) where
-  number-is : refusal (limits N d) ≡ design N d .refusal
+  pub number-is : refusal (limits N d) ≡ design N d .refusal
   number-is = go (ℕ-discrete (refusal (limits N d)) 0)
     where
       go : Dec (refusal (limits N d) ≡ 0) → refusal (limits N d) ≡ design N d .refusal

@@ -1,12 +1,13 @@
--- |A1| + .. + |AN| is below 32,768, of every order N and delay d that N takes: computed at each 64th d.
+-- |A1| + .. + |AN| is at most so much by the order N, at every delay d that N takes, and below 32,768: computed at
+-- each 4th d.
 -- Assumes nothing.
 use mathlib.Core.Path.{_≡_, subst}
 use mathlib.Core.Bool.{Bool, true, _&&_}
 use Prim.Native.Nat.{ℕ, zero, suc, _+_, _*_, _-_, _/_, _≤_, _<_}
 use native.Mathlib.Omega.{arith}
-use native.Mathlib.Nat.{mul-le-mul, mul-le-mul-left}
+use native.Mathlib.Nat.{le-trans, mul-le-mul, mul-le-mul-left}
 use native.Mathlib.Decide.{decLt}
-use lib.Dec.{T, leb, leb→le, lit≤}
+use lib.Dec.{T, leb, leb→le, lit≤, lit<}
 use lib.IntN.{pos, natAbs, _-ℤ_, _*ℤ_}
 use mir.Facts.{and-yes}
 use Rattle.integer.proofs.View.{absv, -v, near}
@@ -18,11 +19,11 @@ use Rattle.thiran.specs.Steps.{part}
 use Rattle.thiran.proofs.Cancelled.{turned}
 use Rattle.thiran.proofs.Steps.{upper, bottom-above, coefficient-part}
 
--- ---- bounds at the 64 delays from c on: of the size of the code's fraction's top,
+-- ---- bounds at the 4 delays from c on: of the size of the code's fraction's top,
 module _ (N c : ℕ) where
   abbrev most : ℕ → ℕ
   most zero = 1
-  most (suc k) = most k * (natAbs (pos N -ℤ pos k) * (natAbs (turned N c k) + 63))
+  most (suc k) = most k * (natAbs (pos N -ℤ pos k) * (natAbs (turned N c k) + 3))
 
   -- of a coefficient's size, as the bottom is lowest at c,
   abbrev bound : ℕ → ℕ
@@ -33,7 +34,7 @@ module _ (N c : ℕ) where
   bounds k zero = 0
   bounds k (suc n) = bound k + bounds (suc k) n
 
-module _ (N c d : ℕ) (l : lowest N ≤ c) (g : c ≤ d) (h : d ≤ c + 63) where
+module _ (N c d : ℕ) (l : lowest N ≤ c) (g : c ≤ d) (h : d ≤ c + 3) where
   top-most : (k : ℕ) → natAbs (part N d k .top) ≤ most N c k
   top-most zero = lit≤ tt
   top-most (suc k) =
@@ -44,7 +45,7 @@ module _ (N c d : ℕ) (l : lowest N ≤ c) (g : c ≤ d) (h : d ≤ c + 63) whe
       let v = -v (pos (4096 * N)) (pos (c + 4096 * k)) in
       rw (abs-* (part N d k .top) (upper N d k), abs-* n x)
       (mul-le-mul (top-most k)
-      (mul-le-mul-left (natAbs n) (near x {B = natAbs y + 63} (omega (arith, absv y)))))
+      (mul-le-mul-left (natAbs n) (near x {B = natAbs y + 3} (omega (arith, absv y)))))
 
   bottom-least : (k : ℕ) → part N c k .bottom ≤ part N d k .bottom
   bottom-least zero = lit≤ tt
@@ -78,24 +79,56 @@ every-at (suc n) p t i h =
     go s f (yes l) = f l
     go s f (no l) = let e : n ≡ i = omega arith in subst (λ (j : ℕ). T (p j)) e s
 
--- one test, computed at each 64th delay of every order
-fits : ℕ → ℕ → Bool
-fits N i = leb (bounds N (lowest N + 64 * i) 1 N) 32767
+-- a test of each 4th of the 4 n delays from l on, read at every one of them
+fits : ℕ → ℕ → ℕ → ℕ → Bool
+fits N B l i = leb (bounds N (l + 4 * i) 1 N) B
 
-all-fit : T (every orders (λ n. every 64 (fits (suc n))))
+norm-from : (N B l n : ℕ) → T (every n (fits N B l)) → lowest N ≤ l
+    → (d : ℕ) → l ≤ d → d < l + 4 * n → norm (coefficients N d) ≤ B
+unfolding fits coefficients
+norm-from N B l n t h d g k =
+    let i = (d - l) / 4 in
+    let c = l + 4 * i in
+    let b = leb→le (bounds N c 1 N) B (every-at n (fits N B l) t i (omega arith)) in
+    le-trans (norm-bounds N c d (omega arith) (omega arith) (omega arith) 1 N (omega arith)) b
+
+-- ---- by the order
+abbrev pub largest : ℕ → ℕ
+largest zero = 0
+largest (suc zero) = 21863
+largest (suc (suc zero)) = 28115
+largest (suc (suc (suc n))) = 31527
+
+abbrev fit-at : ℕ → Bool
+fit-at n = let N = suc n in every 1024 (fits N (largest N) (lowest N))
+
+all-fit : T (every orders fit-at)
 unfolding fits
 all-fit = tt
 
-pub norm-below : (N d : ℕ) → Takes N d → norm (coefficients N d) < 32768
-unfolding fits coefficients
-norm-below zero d t = absurd (omega (arith, t .least))
-norm-below (suc n) d t =
+pub norm-largest : (N d : ℕ) → Takes N d → norm (coefficients N d) ≤ largest N
+norm-largest zero d t = absurd (omega (arith, t .least))
+norm-largest (suc n) d t =
     let N = suc n in
-    let i = (d - lowest N) / 64 in
-    let c = lowest N + 64 * i in
-    let f = every-at orders (λ m. every 64 (fits (suc m))) all-fit n (t .most) in
-    let b = leb→le (bounds N c 1 N) 32767 (every-at 64 (fits N) f i (omega arith)) in
-    omega (arith, norm-bounds N c d (omega arith) (omega arith) (omega arith) 1 N (omega arith))
+    norm-from N (largest N) (lowest N) 1024 (every-at orders fit-at all-fit n (t .most)) (omega arith) d (t .low)
+    (omega (arith, t .high))
+
+-- in order 3, of 3,946 of its 4,096 delays
+light-fit : T (every 987 (fits 3 29127 10391))
+unfolding fits
+light-fit = tt
+
+pub norm-light : (d : ℕ) → 10391 ≤ d → d ≤ 14336 → norm (coefficients 3 d) ≤ 29127
+norm-light d l h = norm-from 3 29127 10391 987 light-fit (lit≤ tt) d l (omega arith)
+
+largest-below : (N : ℕ) → largest N < 32768
+largest-below zero = lit< tt
+largest-below (suc zero) = lit< tt
+largest-below (suc (suc zero)) = lit< tt
+largest-below (suc (suc (suc n))) = lit< tt
+
+pub norm-below : (N d : ℕ) → Takes N d → norm (coefficients N d) < 32768
+norm-below N d t = omega (arith, norm-largest N d t, largest-below N)
 
 pub norm-coefficients : (N d : ℕ) → Takes N d → norm (coefficients N d) ≤ 32768
 norm-coefficients N d t = omega (arith, norm-below N d t)
