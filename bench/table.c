@@ -42,15 +42,14 @@ static int compare(const void *a, const void *b)
 static void sorted(const Row *r, double ratios[ROUNDS])
 {
     memcpy(ratios, r->ratios, sizeof r->ratios);
-    qsort(ratios, ROUNDS, sizeof ratios[0], compare);
+    qsort(ratios, r->rounds, sizeof ratios[0], compare);
 }
 
-/* The median: what slows the machine for a while slows C and proved in the same rounds. */
-static double ratio(const Row *r)
+double ratio(const Row *r)
 {
     double ratios[ROUNDS];
     sorted(r, ratios);
-    return (ratios[(ROUNDS - 1) / 2] + ratios[ROUNDS / 2]) / 2;
+    return (ratios[(r->rounds - 1) / 2] + ratios[r->rounds / 2]) / 2;
 }
 
 static void print_row(const Row *r)
