@@ -1,10 +1,11 @@
-//! The commands: player, console, figures, rows, scores, calls, silence and compare.
+//! The commands: player, console, figures, rows, vectors, scores, calls, silence and compare.
 
 use oracle::cases::{write_cases, Report as Reached};
 use oracle::compare::compare;
 use oracle::console::answers;
 use oracle::figures::figures;
 use oracle::player::{play, SCORE_BYTES};
+use oracle::rows::vectors::text;
 use oracle::rows::{module, names};
 use oracle::silence::{Report, LIMIT};
 use std::io::{self, Read, Write};
@@ -15,6 +16,7 @@ const USAGE: &str = "oracle player < score
 oracle console < text
 oracle figures
 oracle rows [NAME]
+oracle vectors
 oracle scores SEED COUNT DIR
 oracle calls SEED COUNT DIR
 oracle silence SEED COUNT
@@ -123,6 +125,7 @@ fn main() -> ExitCode {
         ["figures"] => print_figures(),
         ["rows"] => print(&names()),
         ["rows", name] => print_rows(name),
+        ["vectors"] => print(&text()),
         [kind @ ("scores" | "calls"), seed, count, dir] => make_cases(kind, seed, count, dir),
         ["silence", seed, count] => fall_silent(seed, count),
         ["compare", program, dir, saved] => hold(program, dir, saved),

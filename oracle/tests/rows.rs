@@ -1,8 +1,10 @@
 //! The rows: what their lists reach, demand 3 on each, and how they are written.
 
 use oracle::click::{history, Tally};
+use oracle::console::answers;
 use oracle::rows::answers::{open, opening, Answers};
 use oracle::rows::lists::OPENINGS;
+use oracle::rows::vectors::text;
 use oracle::rows::voices::lists;
 use oracle::rows::{module, MODULES};
 
@@ -36,28 +38,45 @@ fn demand_3_holds_on_each_list() {
     assert!(tally.raised > 4 && tally.lowered > 4, "{tally:?}");
 }
 
+/// The answers of the console to all rows, each as its words.
+fn answered() -> Vec<Vec<String>> {
+    let answers = answers(text().as_bytes());
+    answers.lines().map(|line| line.split(' ').map(str::to_string).collect()).collect()
+}
+
 #[test]
-fn every_refusal_of_a_record_and_of_a_note_is_reached() {
-    let records = module("RecordRows").expect("the module RecordRows");
-    for number in [0, 14, 15] {
-        assert!(records.contains(&format!("fields = {number} ∷")), "{number}");
-    }
-    let notes = module("NoteRows").expect("the module NoteRows");
-    for number in [0, 1, 11, 12, 13] {
-        assert!(notes.contains(&format!("number = {number};")), "{number}");
-    }
-    let lengths = ["L = 1;", "L = 2048;"];
-    let delays = ["d = 2049 ", "d = 6144 ", "d = 6145 ", "d = 10240 ", "d = 10241 ", "d = 14336 "];
-    for limit in lengths.into_iter().chain(delays) {
-        assert!(notes.contains(limit), "{limit}");
+fn no_row_is_an_error() {
+    assert!(answered().iter().all(|words| words[0] != "error"));
+}
+
+#[test]
+fn every_refusal_of_a_routine_is_reached() {
+    let answered = answered();
+    let reached = |name: &str, number: u32| {
+        let number = number.to_string();
+        answered.iter().any(|words| words[0] == name && words[1] == number)
+    };
+    let numbers: [(&str, &[u32]); 4] = [
+        ("record", &[0, 14, 15]),
+        ("note", &[0, 1, 11, 12, 13]),
+        ("run", &[0, 1, 2, 3, 5, 6, 7, 8, 14, 15, 16]),
+        ("open", &[0, 1, 2, 3, 4, 5]),
+    ];
+    for (name, numbers) in numbers {
+        assert!(numbers.iter().all(|number| reached(name, *number)), "{name}");
     }
 }
 
 #[test]
-fn every_refusal_of_a_score_is_reached() {
-    let scores = module("ScoreRows").expect("the module ScoreRows");
-    for number in [0, 1, 2, 3, 5, 6, 7, 8, 14, 15, 16] {
-        assert!(scores.contains(&format!("number = {number};")), "{number}");
+fn every_limit_of_a_note_is_a_theorem() {
+    let notes = module("NoteRows").expect("the module NoteRows");
+    for limit in ["number = 11;", "number = 12;", "number = 13;", "L = 1;", "L = 2048;"] {
+        assert!(notes.contains(limit), "{limit}");
+    }
+    for limit in
+        ["fs = 7999;", "fs = 8000;", "fs = 192000;", "fs = 192001;", "m = 127;", "m = 128;"]
+    {
+        assert!(notes.contains(limit), "{limit}");
     }
 }
 

@@ -7,12 +7,4 @@ use Rattle.figures.specs.NoteRows.{NoteRows}
 
 pub note-rows : NoteRows
 unfolding floor nearest octave period splitL splitD pitch
-note-rows = record {
-  orders = refl;
-  rates = refl;
-  notes = refl;
-  places = refl;
-  higher = refl;
-  lengths = refl;
-  delays = refl;
-}
+note-rows = record { limits = refl }

@@ -6,4 +6,4 @@ use Rattle.figures.specs.RecordRows.{RecordRows}
 
 pub record-rows : RecordRows
 unfolding field recordNumber fields rest
-record-rows = record { alone = refl; cut = refl; first = refl; formed = refl; maps = refl }
+record-rows = record { limits = refl }

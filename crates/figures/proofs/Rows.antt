@@ -19,30 +19,11 @@ unfolding
 rows = record {
   openings = refl;
   orders-announced = record { opening = refl; numbers = refl; counts = refl; outputs = refl; voice = refl; line = refl };
-  orders-instant = record { opening = refl; numbers = refl; counts = refl; outputs = refl; voice = refl; line = refl };
   orders-asked = record { opening = refl; numbers = refl; counts = refl; outputs = refl; voice = refl; line = refl };
-  orders-down = record { opening = refl; numbers = refl; counts = refl; outputs = refl; voice = refl; line = refl };
-  orders-back = record { opening = refl; numbers = refl; counts = refl; outputs = refl; voice = refl; line = refl };
-  orders-rest = record { opening = refl; numbers = refl; counts = refl; outputs = refl; voice = refl; line = refl };
   orders-refused = record { opening = refl; numbers = refl; counts = refl; outputs = refl; voice = refl; line = refl };
   clips = record { opening = refl; numbers = refl; counts = refl; outputs = refl; voice = refl; line = refl };
-  waits = record { opening = refl; numbers = refl; counts = refl; outputs = refl; voice = refl; line = refl };
   early = record { opening = refl; numbers = refl; counts = refl; outputs = refl; voice = refl; line = refl };
-  reaches = record { opening = refl; numbers = refl; counts = refl; outputs = refl; voice = refl; line = refl };
   at-once = record { opening = refl; numbers = refl; counts = refl; outputs = refl; voice = refl; line = refl };
-  asked = record { opening = refl; numbers = refl; counts = refl; outputs = refl; voice = refl; line = refl };
-  asked-at-rest = record { opening = refl; numbers = refl; counts = refl; outputs = refl; voice = refl; line = refl };
-  withdrawn = record { opening = refl; numbers = refl; counts = refl; outputs = refl; voice = refl; line = refl };
   plucks = record { opening = refl; numbers = refl; counts = refl; outputs = refl; voice = refl; line = refl };
-  halves1 = record { opening = refl; numbers = refl; counts = refl; outputs = refl; voice = refl; line = refl };
-  halves2 = record { opening = refl; numbers = refl; counts = refl; outputs = refl; voice = refl; line = refl };
-  halves3 = record { opening = refl; numbers = refl; counts = refl; outputs = refl; voice = refl; line = refl };
-  loss65535 = record { opening = refl; numbers = refl; counts = refl; outputs = refl; voice = refl; line = refl };
-  loss65000 = record { opening = refl; numbers = refl; counts = refl; outputs = refl; voice = refl; line = refl };
-  waits3 = record { opening = refl; numbers = refl; counts = refl; outputs = refl; voice = refl; line = refl };
-  early3 = record { opening = refl; numbers = refl; counts = refl; outputs = refl; voice = refl; line = refl };
-  at-once3 = record { opening = refl; numbers = refl; counts = refl; outputs = refl; voice = refl; line = refl };
-  asked3 = record { opening = refl; numbers = refl; counts = refl; outputs = refl; voice = refl; line = refl };
-  refused5 = record { opening = refl; numbers = refl; counts = refl; outputs = refl; voice = refl; line = refl };
   refused1 = record { opening = refl; numbers = refl; counts = refl; outputs = refl; voice = refl; line = refl };
 }

@@ -20,4 +20,4 @@ unfolding
     floor nearest cut R Q clip factor a coefficient coefficients inner next out Noise.next Noise.value
     noise spent output written settled stepped number opened done step sounds call put silence
     field recordNumber fields rest then actCalls recordCalls played records run
-score-rows = record { headers = refl; unopened = refl; fields = refl; counts = refl; refused = refl }
+score-rows = record { limits = refl }

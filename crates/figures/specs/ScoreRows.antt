@@ -29,89 +29,10 @@ abbrev pub given : List Row → List Row
 given [] = []
 given (r ∷ rs) = played (r .bytes) (r .room) (run (r .bytes) (r .room)) ∷ given rs
 
--- each number of the header, heard; no record at all
-abbrev pub headers : List Row
-headers =
+-- the header cut, and alone; 16 on both sides; 6; every field; an absent count
+abbrev pub limits : List Row
+limits =
     record {
-      bytes = 1 ∷ 0 ∷ 3 ∷ 0 ∷ 160 ∷ 15 ∷ 96 ∷ 234 ∷ 48 ∷ 9 ∷ 0 ∷ 2 ∷ 0 ∷ 1 ∷ 9 ∷ 0 ∷ [];
-      room = 9;
-      number = 0;
-      place = 2;
-      samples =
-          pos 0 ∷ pos 0 ∷ pos 0 ∷ negsuc 1844 ∷ negsuc 157207 ∷ negsuc 128744 ∷ pos 1516
-          ∷ negsuc 1724 ∷ negsuc 74338 ∷ [];
-    }
-    ∷ record {
-      bytes = 2 ∷ 0 ∷ 3 ∷ 0 ∷ 100 ∷ 25 ∷ 96 ∷ 234 ∷ 48 ∷ 9 ∷ 0 ∷ 2 ∷ 0 ∷ 1 ∷ 9 ∷ 0 ∷ [];
-      room = 9;
-      number = 0;
-      place = 2;
-      samples =
-          pos 0 ∷ pos 0 ∷ pos 0 ∷ pos 4066 ∷ negsuc 47605 ∷ negsuc 182082 ∷ negsuc 73749
-          ∷ pos 19912 ∷ negsuc 10042 ∷ [];
-    }
-    ∷ record {
-      bytes = 3 ∷ 0 ∷ 3 ∷ 0 ∷ 4 ∷ 41 ∷ 96 ∷ 234 ∷ 48 ∷ 9 ∷ 0 ∷ 2 ∷ 0 ∷ 1 ∷ 9 ∷ 0 ∷ [];
-      room = 9;
-      number = 0;
-      place = 2;
-      samples =
-          pos 0 ∷ pos 0 ∷ pos 0 ∷ negsuc 661 ∷ pos 6752 ∷ negsuc 53795 ∷ negsuc 183601
-          ∷ negsuc 65581 ∷ pos 15669 ∷ [];
-    }
-    ∷ record {
-      bytes = 1 ∷ 0 ∷ 2 ∷ 0 ∷ 160 ∷ 15 ∷ 96 ∷ 234 ∷ 48 ∷ 9 ∷ 0 ∷ 2 ∷ 0 ∷ 1 ∷ 9 ∷ 0 ∷ [];
-      room = 9;
-      number = 0;
-      place = 2;
-      samples =
-          pos 0 ∷ pos 0 ∷ negsuc 1844 ∷ negsuc 157207 ∷ negsuc 128754 ∷ negsuc 180 ∷ negsuc 74356
-          ∷ negsuc 130720 ∷ negsuc 57876 ∷ [];
-    }
-    ∷ record {
-      bytes = 1 ∷ 0 ∷ 3 ∷ 0 ∷ 136 ∷ 19 ∷ 96 ∷ 234 ∷ 48 ∷ 9 ∷ 0 ∷ 2 ∷ 0 ∷ 1 ∷ 9 ∷ 0 ∷ [];
-      room = 9;
-      number = 0;
-      place = 2;
-      samples =
-          pos 0 ∷ pos 0 ∷ pos 0 ∷ pos 15471 ∷ negsuc 141164 ∷ negsuc 144636 ∷ negsuc 15076
-          ∷ pos 11302 ∷ negsuc 43413 ∷ [];
-    }
-    ∷ record {
-      bytes = 1 ∷ 0 ∷ 3 ∷ 0 ∷ 160 ∷ 15 ∷ 40 ∷ 35 ∷ 48 ∷ 9 ∷ 0 ∷ 2 ∷ 0 ∷ 1 ∷ 9 ∷ 0 ∷ [];
-      room = 9;
-      number = 0;
-      place = 2;
-      samples =
-          pos 0 ∷ pos 0 ∷ pos 0 ∷ negsuc 1844 ∷ negsuc 157207 ∷ negsuc 128744 ∷ pos 1525
-          ∷ negsuc 272 ∷ negsuc 11150 ∷ [];
-    }
-    ∷ record {
-      bytes = 1 ∷ 2 ∷ 3 ∷ 0 ∷ 160 ∷ 15 ∷ 96 ∷ 234 ∷ [];
-      room = 3;
-      number = 0;
-      place = 0;
-      samples = [];
-    }
-    ∷ []
-
--- 14 in the header, cut at each byte; 1, 2, 3 and 5 of Open
-abbrev pub unopened : List Row
-unopened =
-    record { bytes = []; room = 1; number = 14; place = 0; samples = [] }
-    ∷ record { bytes = 1 ∷ []; room = 1; number = 14; place = 0; samples = [] }
-    ∷ record { bytes = 1 ∷ 2 ∷ []; room = 1; number = 14; place = 0; samples = [] }
-    ∷ record { bytes = 1 ∷ 2 ∷ 3 ∷ []; room = 1; number = 14; place = 0; samples = [] }
-    ∷ record { bytes = 1 ∷ 2 ∷ 3 ∷ 0 ∷ []; room = 1; number = 14; place = 0; samples = [] }
-    ∷ record { bytes = 1 ∷ 2 ∷ 3 ∷ 0 ∷ 160 ∷ []; room = 1; number = 14; place = 0; samples = [] }
-    ∷ record {
-      bytes = 1 ∷ 2 ∷ 3 ∷ 0 ∷ 160 ∷ 15 ∷ [];
-      room = 1;
-      number = 14;
-      place = 0;
-      samples = [];
-    }
-    ∷ record {
       bytes = 1 ∷ 2 ∷ 3 ∷ 0 ∷ 160 ∷ 15 ∷ 96 ∷ [];
       room = 1;
       number = 14;
@@ -119,237 +40,38 @@ unopened =
       samples = [];
     }
     ∷ record {
-      bytes = 0 ∷ 65 ∷ 0 ∷ 0 ∷ 0 ∷ 0 ∷ 0 ∷ 0 ∷ 48 ∷ 9 ∷ 0 ∷ 2 ∷ 0 ∷ 1 ∷ 1 ∷ 0 ∷ [];
-      room = 1;
-      number = 1;
-      place = 0;
-      samples = [];
-    }
-    ∷ record {
-      bytes = 4 ∷ 64 ∷ 1 ∷ 0 ∷ 0 ∷ 16 ∷ 0 ∷ 0 ∷ 48 ∷ 9 ∷ 0 ∷ 2 ∷ 0 ∷ 1 ∷ 1 ∷ 0 ∷ [];
-      room = 1;
-      number = 1;
-      place = 0;
-      samples = [];
-    }
-    ∷ record {
-      bytes = 1 ∷ 64 ∷ 0 ∷ 0 ∷ 0 ∷ 0 ∷ 0 ∷ 0 ∷ 48 ∷ 9 ∷ 0 ∷ 2 ∷ 0 ∷ 1 ∷ 1 ∷ 0 ∷ [];
-      room = 1;
-      number = 2;
-      place = 0;
-      samples = [];
-    }
-    ∷ record {
-      bytes = 1 ∷ 64 ∷ 1 ∷ 8 ∷ 0 ∷ 16 ∷ 0 ∷ 0 ∷ 48 ∷ 9 ∷ 0 ∷ 2 ∷ 0 ∷ 1 ∷ 1 ∷ 0 ∷ [];
-      room = 1;
-      number = 2;
-      place = 0;
-      samples = [];
-    }
-    ∷ record {
-      bytes = 1 ∷ 65 ∷ 1 ∷ 0 ∷ 0 ∷ 8 ∷ 0 ∷ 0 ∷ 48 ∷ 9 ∷ 0 ∷ 2 ∷ 0 ∷ 1 ∷ 1 ∷ 0 ∷ [];
-      room = 1;
-      number = 3;
-      place = 0;
-      samples = [];
-    }
-    ∷ record {
-      bytes = 1 ∷ 0 ∷ 1 ∷ 0 ∷ 1 ∷ 24 ∷ 0 ∷ 0 ∷ 48 ∷ 9 ∷ 0 ∷ 2 ∷ 0 ∷ 1 ∷ 1 ∷ 0 ∷ [];
-      room = 1;
-      number = 3;
-      place = 0;
-      samples = [];
-    }
-    ∷ record {
-      bytes = 2 ∷ 0 ∷ 1 ∷ 0 ∷ 0 ∷ 24 ∷ 0 ∷ 0 ∷ 48 ∷ 9 ∷ 0 ∷ 2 ∷ 0 ∷ 1 ∷ 1 ∷ 0 ∷ [];
-      room = 1;
-      number = 3;
-      place = 0;
-      samples = [];
-    }
-    ∷ record {
-      bytes = 2 ∷ 0 ∷ 1 ∷ 0 ∷ 1 ∷ 40 ∷ 0 ∷ 0 ∷ 48 ∷ 9 ∷ 0 ∷ 2 ∷ 0 ∷ 1 ∷ 1 ∷ 0 ∷ [];
-      room = 1;
-      number = 3;
-      place = 0;
-      samples = [];
-    }
-    ∷ record {
-      bytes = 2 ∷ 65 ∷ 0 ∷ 8 ∷ 0 ∷ 40 ∷ 255 ∷ 255 ∷ 48 ∷ 9 ∷ 0 ∷ 2 ∷ 0 ∷ 1 ∷ 1 ∷ 0 ∷ [];
-      room = 1;
-      number = 5;
-      place = 0;
-      samples = [];
-    }
-    ∷ record {
-      bytes = 3 ∷ 0 ∷ 1 ∷ 0 ∷ 0 ∷ 40 ∷ 0 ∷ 0 ∷ 48 ∷ 9 ∷ 0 ∷ 2 ∷ 0 ∷ 1 ∷ 1 ∷ 0 ∷ [];
-      room = 1;
-      number = 3;
-      place = 0;
-      samples = [];
-    }
-    ∷ record {
-      bytes = 3 ∷ 0 ∷ 1 ∷ 0 ∷ 1 ∷ 56 ∷ 0 ∷ 0 ∷ 48 ∷ 9 ∷ 0 ∷ 2 ∷ 0 ∷ 1 ∷ 1 ∷ 0 ∷ [];
-      room = 1;
-      number = 3;
-      place = 0;
-      samples = [];
-    }
-    ∷ []
-
--- each field absent and present
-abbrev pub fields : List Row
-fields =
-    record {
       bytes =
-          1 ∷ 2 ∷ 3 ∷ 0 ∷ 160 ∷ 15 ∷ 96 ∷ 234 ∷ 48 ∷ 9 ∷ 0 ∷ 2 ∷ 0 ∷ 1 ∷ 4 ∷ 0 ∷ 0 ∷ 1 ∷ 5 ∷ 0 ∷ [];
-      room = 9;
-      number = 0;
-      place = 4;
-      samples =
-          pos 0 ∷ pos 0 ∷ pos 0 ∷ negsuc 1844 ∷ negsuc 157207 ∷ negsuc 128744 ∷ pos 1516
-          ∷ negsuc 1724 ∷ negsuc 74338 ∷ [];
-    }
-    ∷ record {
-      bytes =
-          1 ∷ 2 ∷ 3 ∷ 0 ∷ 160 ∷ 15 ∷ 96 ∷ 234 ∷ 48 ∷ 9 ∷ 0 ∷ 2 ∷ 0 ∷ 1 ∷ 4 ∷ 0 ∷ 2 ∷ 2 ∷ 0 ∷ 1 ∷ 7
-          ∷ 0 ∷ [];
-      room = 11;
-      number = 0;
-      place = 4;
-      samples =
-          pos 0 ∷ pos 0 ∷ pos 0 ∷ negsuc 1844 ∷ negsuc 157207 ∷ negsuc 128744 ∷ negsuc 1706
-          ∷ negsuc 74338 ∷ negsuc 130723 ∷ negsuc 58578 ∷ negsuc 35229 ∷ [];
-    }
-    ∷ record {
-      bytes =
-          1 ∷ 2 ∷ 3 ∷ 0 ∷ 160 ∷ 15 ∷ 96 ∷ 234 ∷ 48 ∷ 9 ∷ 0 ∷ 2 ∷ 0 ∷ 1 ∷ 4 ∷ 0 ∷ 4 ∷ 136 ∷ 19 ∷ 1
-          ∷ 7 ∷ 0 ∷ [];
-      room = 11;
-      number = 0;
-      place = 4;
-      samples =
-          pos 0 ∷ pos 0 ∷ pos 0 ∷ negsuc 1844 ∷ negsuc 157207 ∷ negsuc 128744 ∷ negsuc 12767
-          ∷ pos 5123 ∷ negsuc 59289 ∷ negsuc 130351 ∷ negsuc 77384 ∷ [];
-    }
-    ∷ record {
-      bytes =
-          1 ∷ 2 ∷ 3 ∷ 0 ∷ 160 ∷ 15 ∷ 96 ∷ 234 ∷ 48 ∷ 9 ∷ 0 ∷ 2 ∷ 0 ∷ 1 ∷ 4 ∷ 0 ∷ 6 ∷ 2 ∷ 0 ∷ 136
-          ∷ 19 ∷ 1 ∷ 7 ∷ 0 ∷ [];
-      room = 11;
-      number = 0;
-      place = 4;
-      samples =
-          pos 0 ∷ pos 0 ∷ pos 0 ∷ negsuc 1844 ∷ negsuc 157207 ∷ negsuc 128744 ∷ pos 6399
-          ∷ negsuc 59162 ∷ negsuc 131210 ∷ negsuc 66643 ∷ negsuc 22115 ∷ [];
-    }
-    ∷ record {
-      bytes =
-          1 ∷ 2 ∷ 3 ∷ 0 ∷ 160 ∷ 15 ∷ 96 ∷ 234 ∷ 48 ∷ 9 ∷ 0 ∷ 2 ∷ 0 ∷ 1 ∷ 4 ∷ 0 ∷ 130 ∷ 2 ∷ 0 ∷ 1
-          ∷ 5 ∷ 0 ∷ [];
-      room = 9;
-      number = 0;
-      place = 4;
-      samples =
-          pos 0 ∷ pos 0 ∷ pos 0 ∷ negsuc 1844 ∷ negsuc 128744 ∷ pos 1516 ∷ negsuc 1569
-          ∷ negsuc 60450 ∷ negsuc 57524 ∷ [];
-    }
-    ∷ record {
-      bytes =
-          1 ∷ 2 ∷ 3 ∷ 0 ∷ 160 ∷ 15 ∷ 96 ∷ 234 ∷ 48 ∷ 9 ∷ 0 ∷ 2 ∷ 0 ∷ 1 ∷ 4 ∷ 0 ∷ 132 ∷ 136 ∷ 19 ∷ 1
-          ∷ 5 ∷ 0 ∷ [];
-      room = 9;
-      number = 0;
-      place = 4;
-      samples =
-          pos 0 ∷ pos 0 ∷ pos 0 ∷ negsuc 1844 ∷ negsuc 141164 ∷ negsuc 144636 ∷ negsuc 14289
-          ∷ pos 4242 ∷ negsuc 52040 ∷ [];
-    }
-    ∷ record {
-      bytes =
-          1 ∷ 2 ∷ 3 ∷ 0 ∷ 160 ∷ 15 ∷ 96 ∷ 234 ∷ 48 ∷ 9 ∷ 0 ∷ 2 ∷ 0 ∷ 1 ∷ 4 ∷ 0 ∷ 134 ∷ 2 ∷ 0 ∷ 136
-          ∷ 19 ∷ 1 ∷ 5 ∷ 0 ∷ [];
-      room = 9;
-      number = 0;
-      place = 4;
-      samples =
-          pos 0 ∷ pos 0 ∷ pos 0 ∷ negsuc 1844 ∷ negsuc 144636 ∷ negsuc 14289 ∷ pos 4400
-          ∷ negsuc 59386 ∷ negsuc 78202 ∷ [];
-    }
-    ∷ record {
-      bytes =
-          1 ∷ 2 ∷ 3 ∷ 0 ∷ 160 ∷ 15 ∷ 96 ∷ 234 ∷ 48 ∷ 9 ∷ 0 ∷ 2 ∷ 0 ∷ 1 ∷ 4 ∷ 0 ∷ 8 ∷ 32 ∷ 78 ∷ 1
-          ∷ 5 ∷ 0 ∷ [];
-      room = 9;
-      number = 0;
-      place = 4;
-      samples =
-          pos 0 ∷ pos 0 ∷ pos 0 ∷ negsuc 1844 ∷ negsuc 157207 ∷ negsuc 128744 ∷ pos 1516
-          ∷ negsuc 1148 ∷ negsuc 24771 ∷ [];
-    }
-    ∷ record {
-      bytes =
-          1 ∷ 2 ∷ 3 ∷ 0 ∷ 160 ∷ 15 ∷ 96 ∷ 234 ∷ 48 ∷ 9 ∷ 0 ∷ 2 ∷ 0 ∷ 1 ∷ 4 ∷ 0 ∷ 48 ∷ 7 ∷ 0 ∷ 3 ∷ 0
-          ∷ 1 ∷ 6 ∷ 0 ∷ [];
-      room = 10;
-      number = 0;
-      place = 4;
-      samples =
-          pos 0 ∷ pos 0 ∷ pos 0 ∷ negsuc 1844 ∷ negsuc 157207 ∷ negsuc 128744 ∷ pos 1516
-          ∷ negsuc 3159 ∷ negsuc 196612 ∷ negsuc 229104 ∷ [];
-    }
-    ∷ record {
-      bytes =
-          1 ∷ 2 ∷ 3 ∷ 0 ∷ 160 ∷ 15 ∷ 96 ∷ 234 ∷ 48 ∷ 9 ∷ 0 ∷ 2 ∷ 0 ∷ 1 ∷ 4 ∷ 0 ∷ 48 ∷ 7 ∷ 0 ∷ 1 ∷ 0
-          ∷ 1 ∷ 6 ∷ 0 ∷ [];
-      room = 10;
-      number = 0;
-      place = 4;
-      samples =
-          pos 0 ∷ pos 0 ∷ pos 0 ∷ negsuc 1844 ∷ negsuc 157207 ∷ negsuc 128744 ∷ pos 1516
-          ∷ negsuc 3159 ∷ negsuc 195407 ∷ negsuc 129271 ∷ [];
-    }
-    ∷ record {
-      bytes =
-          1 ∷ 2 ∷ 3 ∷ 0 ∷ 160 ∷ 15 ∷ 96 ∷ 234 ∷ 48 ∷ 9 ∷ 0 ∷ 2 ∷ 0 ∷ 1 ∷ 4 ∷ 0 ∷ 112 ∷ 7 ∷ 0 ∷ 2
-          ∷ 0 ∷ 9 ∷ 0 ∷ 1 ∷ 6 ∷ 0 ∷ [];
-      room = 10;
-      number = 0;
-      place = 4;
-      samples =
-          pos 0 ∷ pos 0 ∷ pos 0 ∷ negsuc 1844 ∷ negsuc 157207 ∷ negsuc 128744 ∷ pos 1516
-          ∷ negsuc 3140 ∷ negsuc 196008 ∷ negsuc 315107 ∷ [];
-    }
-    ∷ record {
-      bytes =
-          1 ∷ 2 ∷ 3 ∷ 0 ∷ 160 ∷ 15 ∷ 96 ∷ 234 ∷ 48 ∷ 9 ∷ 0 ∷ 2 ∷ 0 ∷ 1 ∷ 4 ∷ 0 ∷ 114 ∷ 5 ∷ 0 ∷ 7
-          ∷ 0 ∷ 3 ∷ 0 ∷ 255 ∷ 255 ∷ 1 ∷ 7 ∷ 0 ∷ [];
-      room = 11;
-      number = 0;
-      place = 4;
-      samples =
-          pos 0 ∷ pos 0 ∷ pos 0 ∷ negsuc 1844 ∷ negsuc 157207 ∷ negsuc 128744 ∷ negsuc 157207
-          ∷ negsuc 128744 ∷ pos 1516 ∷ negsuc 993 ∷ negsuc 12462 ∷ [];
-    }
-    ∷ record {
-      bytes =
-          1 ∷ 2 ∷ 3 ∷ 0 ∷ 160 ∷ 15 ∷ 96 ∷ 234 ∷ 48 ∷ 9 ∷ 0 ∷ 2 ∷ 0 ∷ 1 ∷ 4 ∷ 0 ∷ 178 ∷ 1 ∷ 0 ∷ 7
-          ∷ 0 ∷ 1 ∷ 0 ∷ 1 ∷ 5 ∷ 0 ∷ [];
-      room = 9;
-      number = 0;
-      place = 4;
-      samples =
-          pos 0 ∷ pos 0 ∷ pos 0 ∷ negsuc 1844 ∷ pos 1538 ∷ negsuc 2298 ∷ negsuc 121203 ∷ pos 419
-          ∷ negsuc 57193 ∷ [];
-    }
-    ∷ record {
-      bytes =
-          1 ∷ 2 ∷ 3 ∷ 0 ∷ 160 ∷ 15 ∷ 96 ∷ 234 ∷ 48 ∷ 9 ∷ 0 ∷ 4 ∷ 0 ∷ 49 ∷ 1 ∷ 0 ∷ 0 ∷ 0 ∷ 3 ∷ 0
+          1 ∷ 2 ∷ 3 ∷ 0 ∷ 160 ∷ 15 ∷ 96 ∷ 234 ∷ 48 ∷ 9 ∷ 0 ∷ 2 ∷ 0 ∷ 1 ∷ 4 ∷ 0 ∷ 3 ∷ 2 ∷ 0 ∷ 0 ∷ 0
           ∷ [];
-      room = 9;
-      number = 0;
+      room = 5;
+      number = 16;
       place = 2;
-      samples = pos 0 ∷ [];
+      samples = pos 0 ∷ pos 0 ∷ pos 0 ∷ negsuc 1844 ∷ [];
+    }
+    ∷ record {
+      bytes =
+          1 ∷ 2 ∷ 3 ∷ 0 ∷ 160 ∷ 15 ∷ 96 ∷ 234 ∷ 48 ∷ 9 ∷ 0 ∷ 2 ∷ 0 ∷ 1 ∷ 4 ∷ 0 ∷ 3 ∷ 2 ∷ 0 ∷ 0 ∷ 0
+          ∷ [];
+      room = 6;
+      number = 2;
+      place = 2;
+      samples = pos 0 ∷ pos 0 ∷ pos 0 ∷ negsuc 1844 ∷ negsuc 157207 ∷ negsuc 128744 ∷ [];
+    }
+    ∷ record {
+      bytes =
+          1 ∷ 2 ∷ 3 ∷ 0 ∷ 160 ∷ 15 ∷ 96 ∷ 234 ∷ 48 ∷ 9 ∷ 0 ∷ 2 ∷ 0 ∷ 1 ∷ 4 ∷ 0 ∷ 6 ∷ 2 ∷ 0 ∷ 0 ∷ 16
+          ∷ 3 ∷ 1 ∷ 0 ∷ 2 ∷ 0 ∷ [];
+      room = 9;
+      number = 6;
+      place = 3;
+      samples = pos 0 ∷ pos 0 ∷ pos 0 ∷ negsuc 1844 ∷ negsuc 157207 ∷ [];
+    }
+    ∷ record {
+      bytes = 1 ∷ 2 ∷ 3 ∷ 0 ∷ 160 ∷ 15 ∷ 96 ∷ 234 ∷ [];
+      room = 3;
+      number = 0;
+      place = 0;
+      samples = [];
     }
     ∷ record {
       bytes =
@@ -359,73 +81,6 @@ fields =
       number = 16;
       place = 3;
       samples = pos 0 ∷ pos 0 ∷ pos 0 ∷ negsuc 1844 ∷ negsuc 157207 ∷ negsuc 128744 ∷ [];
-    }
-    ∷ []
-
--- a pluck of 100 samples, or of the count that is given, at each L
-abbrev pub counts : List Row
-counts =
-    record {
-      bytes = 1 ∷ 0 ∷ 1 ∷ 0 ∷ 0 ∷ 16 ∷ 0 ∷ 0 ∷ 16 ∷ 1 ∷ 0 ∷ 130 ∷ 1 ∷ 0 ∷ 1 ∷ 104 ∷ 0 ∷ [];
-      room = 104;
-      number = 0;
-      place = 3;
-      samples =
-          pos 0 ∷ pos 0 ∷ negsuc 17297 ∷ negsuc 14511 ∷ pos 20940 ∷ pos 11001 ∷ negsuc 7597
-          ∷ pos 7982 ∷ negsuc 10241 ∷ pos 9177 ∷ pos 509 ∷ pos 5360 ∷ pos 19446 ∷ pos 15569
-          ∷ pos 7459 ∷ pos 25238 ∷ negsuc 32325 ∷ pos 966 ∷ pos 13613 ∷ negsuc 12342 ∷ negsuc 7600
-          ∷ pos 9481 ∷ pos 1628 ∷ pos 2733 ∷ negsuc 6533 ∷ negsuc 16569 ∷ negsuc 31954
-          ∷ negsuc 15372 ∷ pos 31690 ∷ pos 7355 ∷ negsuc 3073 ∷ negsuc 24012 ∷ negsuc 10282
-          ∷ negsuc 31316 ∷ negsuc 8464 ∷ negsuc 8070 ∷ pos 32192 ∷ pos 8211 ∷ pos 7179
-          ∷ negsuc 21473 ∷ pos 31234 ∷ pos 4252 ∷ negsuc 18007 ∷ negsuc 27173 ∷ pos 6250
-          ∷ pos 20690 ∷ negsuc 27378 ∷ negsuc 21991 ∷ negsuc 26528 ∷ negsuc 4459 ∷ negsuc 13484
-          ∷ pos 1162 ∷ negsuc 23703 ∷ negsuc 22323 ∷ pos 26255 ∷ negsuc 3328 ∷ negsuc 30225
-          ∷ pos 7520 ∷ negsuc 5328 ∷ negsuc 1165 ∷ negsuc 30145 ∷ negsuc 918 ∷ negsuc 22109
-          ∷ pos 22884 ∷ negsuc 23085 ∷ negsuc 2907 ∷ negsuc 1987 ∷ negsuc 14739 ∷ negsuc 14125
-          ∷ pos 19752 ∷ negsuc 18085 ∷ negsuc 24051 ∷ pos 18391 ∷ pos 24663 ∷ negsuc 11837
-          ∷ negsuc 13112 ∷ negsuc 2063 ∷ pos 27671 ∷ pos 29518 ∷ negsuc 13709 ∷ pos 25831
-          ∷ pos 27458 ∷ pos 24522 ∷ negsuc 54 ∷ negsuc 5689 ∷ negsuc 5027 ∷ negsuc 30691 ∷ pos 8003
-          ∷ negsuc 20585 ∷ pos 6533 ∷ negsuc 21596 ∷ pos 6440 ∷ negsuc 10647 ∷ pos 26032
-          ∷ negsuc 9245 ∷ pos 8929 ∷ pos 19607 ∷ negsuc 27884 ∷ pos 2143 ∷ negsuc 22127 ∷ pos 6220
-          ∷ pos 1758 ∷ pos 0 ∷ pos 0 ∷ [];
-    }
-    ∷ record {
-      bytes = 1 ∷ 0 ∷ 1 ∷ 0 ∷ 0 ∷ 16 ∷ 0 ∷ 0 ∷ 48 ∷ 1 ∷ 0 ∷ 2 ∷ 0 ∷ 130 ∷ 1 ∷ 0 ∷ 1 ∷ 6 ∷ 0 ∷ [];
-      room = 6;
-      number = 0;
-      place = 3;
-      samples = pos 0 ∷ pos 0 ∷ negsuc 17297 ∷ negsuc 14511 ∷ pos 0 ∷ pos 0 ∷ [];
-    }
-    ∷ record {
-      bytes = 1 ∷ 0 ∷ 100 ∷ 0 ∷ 0 ∷ 16 ∷ 0 ∷ 0 ∷ 16 ∷ 1 ∷ 0 ∷ 130 ∷ 1 ∷ 0 ∷ 1 ∷ 104 ∷ 0 ∷ [];
-      room = 104;
-      number = 0;
-      place = 3;
-      samples =
-          pos 0 ∷ pos 0 ∷ negsuc 17297 ∷ negsuc 14511 ∷ pos 20940 ∷ pos 11001 ∷ negsuc 7597
-          ∷ pos 7982 ∷ negsuc 10241 ∷ pos 9177 ∷ pos 509 ∷ pos 5360 ∷ pos 19446 ∷ pos 15569
-          ∷ pos 7459 ∷ pos 25238 ∷ negsuc 32325 ∷ pos 966 ∷ pos 13613 ∷ negsuc 12342 ∷ negsuc 7600
-          ∷ pos 9481 ∷ pos 1628 ∷ pos 2733 ∷ negsuc 6533 ∷ negsuc 16569 ∷ negsuc 31954
-          ∷ negsuc 15372 ∷ pos 31690 ∷ pos 7355 ∷ negsuc 3073 ∷ negsuc 24012 ∷ negsuc 10282
-          ∷ negsuc 31316 ∷ negsuc 8464 ∷ negsuc 8070 ∷ pos 32192 ∷ pos 8211 ∷ pos 7179
-          ∷ negsuc 21473 ∷ pos 31234 ∷ pos 4252 ∷ negsuc 18007 ∷ negsuc 27173 ∷ pos 6250
-          ∷ pos 20690 ∷ negsuc 27378 ∷ negsuc 21991 ∷ negsuc 26528 ∷ negsuc 4459 ∷ negsuc 13484
-          ∷ pos 1162 ∷ negsuc 23703 ∷ negsuc 22323 ∷ pos 26255 ∷ negsuc 3328 ∷ negsuc 30225
-          ∷ pos 7520 ∷ negsuc 5328 ∷ negsuc 1165 ∷ negsuc 30145 ∷ negsuc 918 ∷ negsuc 22109
-          ∷ pos 22884 ∷ negsuc 23085 ∷ negsuc 2907 ∷ negsuc 1987 ∷ negsuc 14739 ∷ negsuc 14125
-          ∷ pos 19752 ∷ negsuc 18085 ∷ negsuc 24051 ∷ pos 18391 ∷ pos 24663 ∷ negsuc 11837
-          ∷ negsuc 13112 ∷ negsuc 2063 ∷ pos 27671 ∷ pos 29518 ∷ negsuc 13709 ∷ pos 25831
-          ∷ pos 27458 ∷ pos 24522 ∷ negsuc 54 ∷ negsuc 5689 ∷ negsuc 5027 ∷ negsuc 30691 ∷ pos 8003
-          ∷ negsuc 20585 ∷ pos 6533 ∷ negsuc 21596 ∷ pos 6440 ∷ negsuc 10647 ∷ pos 26032
-          ∷ negsuc 9245 ∷ pos 8929 ∷ pos 19607 ∷ negsuc 27884 ∷ pos 2143 ∷ negsuc 22127 ∷ pos 6220
-          ∷ pos 1758 ∷ pos 0 ∷ pos 0 ∷ [];
-    }
-    ∷ record {
-      bytes = 1 ∷ 0 ∷ 100 ∷ 0 ∷ 0 ∷ 16 ∷ 0 ∷ 0 ∷ 48 ∷ 1 ∷ 0 ∷ 2 ∷ 0 ∷ 130 ∷ 1 ∷ 0 ∷ 1 ∷ 6 ∷ 0 ∷ [];
-      room = 6;
-      number = 0;
-      place = 3;
-      samples = pos 0 ∷ pos 0 ∷ negsuc 17297 ∷ negsuc 14511 ∷ pos 0 ∷ pos 0 ∷ [];
     }
     ∷ record {
       bytes = 1 ∷ 0 ∷ 0 ∷ 8 ∷ 0 ∷ 16 ∷ 0 ∷ 0 ∷ 16 ∷ 1 ∷ 0 ∷ 130 ∷ 1 ∷ 0 ∷ 1 ∷ 104 ∷ 0 ∷ [];
@@ -451,149 +106,7 @@ counts =
           ∷ negsuc 9245 ∷ pos 8929 ∷ pos 19607 ∷ negsuc 27884 ∷ pos 2143 ∷ negsuc 22127 ∷ pos 6220
           ∷ pos 1758 ∷ pos 0 ∷ pos 0 ∷ [];
     }
-    ∷ record {
-      bytes = 1 ∷ 0 ∷ 0 ∷ 8 ∷ 0 ∷ 16 ∷ 0 ∷ 0 ∷ 48 ∷ 1 ∷ 0 ∷ 2 ∷ 0 ∷ 130 ∷ 1 ∷ 0 ∷ 1 ∷ 6 ∷ 0 ∷ [];
-      room = 6;
-      number = 0;
-      place = 3;
-      samples = pos 0 ∷ pos 0 ∷ negsuc 17297 ∷ negsuc 14511 ∷ pos 0 ∷ pos 0 ∷ [];
-    }
-    ∷ []
-
--- each refusal of a record, after samples that stand
-abbrev pub refused : List Row
-refused =
-    record {
-      bytes =
-          1 ∷ 2 ∷ 3 ∷ 0 ∷ 160 ∷ 15 ∷ 96 ∷ 234 ∷ 48 ∷ 9 ∷ 0 ∷ 2 ∷ 0 ∷ 1 ∷ 4 ∷ 0 ∷ 65 ∷ 1 ∷ 0 ∷ 1
-          ∷ [];
-      room = 4;
-      number = 14;
-      place = 2;
-      samples = pos 0 ∷ pos 0 ∷ pos 0 ∷ negsuc 1844 ∷ [];
-    }
-    ∷ record {
-      bytes =
-          1 ∷ 2 ∷ 3 ∷ 0 ∷ 160 ∷ 15 ∷ 96 ∷ 234 ∷ 48 ∷ 9 ∷ 0 ∷ 2 ∷ 0 ∷ 1 ∷ 4 ∷ 0 ∷ 33 ∷ 9 ∷ 0 ∷ 1 ∷ 0
-          ∷ 1 ∷ 3 ∷ 0 ∷ [];
-      room = 7;
-      number = 15;
-      place = 2;
-      samples = pos 0 ∷ pos 0 ∷ pos 0 ∷ negsuc 1844 ∷ [];
-    }
-    ∷ record {
-      bytes =
-          1 ∷ 2 ∷ 3 ∷ 0 ∷ 160 ∷ 15 ∷ 96 ∷ 234 ∷ 48 ∷ 9 ∷ 0 ∷ 2 ∷ 0 ∷ 1 ∷ 4 ∷ 0 ∷ 65 ∷ 1 ∷ 0 ∷ 1 ∷ 0
-          ∷ 1 ∷ 3 ∷ 0 ∷ [];
-      room = 7;
-      number = 15;
-      place = 2;
-      samples = pos 0 ∷ pos 0 ∷ pos 0 ∷ negsuc 1844 ∷ [];
-    }
-    ∷ record {
-      bytes =
-          1 ∷ 2 ∷ 3 ∷ 0 ∷ 160 ∷ 15 ∷ 96 ∷ 234 ∷ 48 ∷ 9 ∷ 0 ∷ 2 ∷ 0 ∷ 1 ∷ 4 ∷ 0 ∷ 129 ∷ 1 ∷ 0 ∷ 1
-          ∷ 3 ∷ 0 ∷ [];
-      room = 7;
-      number = 15;
-      place = 2;
-      samples = pos 0 ∷ pos 0 ∷ pos 0 ∷ negsuc 1844 ∷ [];
-    }
-    ∷ record {
-      bytes =
-          1 ∷ 2 ∷ 3 ∷ 0 ∷ 160 ∷ 15 ∷ 96 ∷ 234 ∷ 48 ∷ 9 ∷ 0 ∷ 2 ∷ 0 ∷ 1 ∷ 4 ∷ 0 ∷ 3 ∷ 2 ∷ 0 ∷ 0 ∷ 0
-          ∷ [];
-      room = 5;
-      number = 16;
-      place = 2;
-      samples = pos 0 ∷ pos 0 ∷ pos 0 ∷ negsuc 1844 ∷ [];
-    }
-    ∷ record {
-      bytes =
-          1 ∷ 2 ∷ 3 ∷ 0 ∷ 160 ∷ 15 ∷ 96 ∷ 234 ∷ 48 ∷ 9 ∷ 0 ∷ 2 ∷ 0 ∷ 1 ∷ 4 ∷ 0 ∷ 3 ∷ 2 ∷ 0 ∷ 0 ∷ 0
-          ∷ [];
-      room = 6;
-      number = 2;
-      place = 2;
-      samples = pos 0 ∷ pos 0 ∷ pos 0 ∷ negsuc 1844 ∷ negsuc 157207 ∷ negsuc 128744 ∷ [];
-    }
-    ∷ record {
-      bytes =
-          1 ∷ 2 ∷ 3 ∷ 0 ∷ 160 ∷ 15 ∷ 96 ∷ 234 ∷ 48 ∷ 9 ∷ 0 ∷ 2 ∷ 0 ∷ 1 ∷ 4 ∷ 0 ∷ 7 ∷ 1 ∷ 0 ∷ 1 ∷ 8
-          ∷ 0 ∷ 0 ∷ 1 ∷ 3 ∷ 0 ∷ [];
-      room = 7;
-      number = 2;
-      place = 2;
-      samples = pos 0 ∷ pos 0 ∷ pos 0 ∷ negsuc 1844 ∷ negsuc 157207 ∷ [];
-    }
-    ∷ record {
-      bytes =
-          1 ∷ 2 ∷ 3 ∷ 0 ∷ 160 ∷ 15 ∷ 96 ∷ 234 ∷ 48 ∷ 9 ∷ 0 ∷ 2 ∷ 0 ∷ 1 ∷ 4 ∷ 0 ∷ 53 ∷ 1 ∷ 0 ∷ 1
-          ∷ 24 ∷ 0 ∷ 1 ∷ 3 ∷ 0 ∷ 1 ∷ 3 ∷ 0 ∷ [];
-      room = 7;
-      number = 3;
-      place = 2;
-      samples = pos 0 ∷ pos 0 ∷ pos 0 ∷ negsuc 1844 ∷ negsuc 157207 ∷ [];
-    }
-    ∷ record {
-      bytes =
-          1 ∷ 2 ∷ 3 ∷ 0 ∷ 160 ∷ 15 ∷ 96 ∷ 234 ∷ 48 ∷ 9 ∷ 0 ∷ 2 ∷ 0 ∷ 1 ∷ 4 ∷ 0 ∷ 6 ∷ 2 ∷ 0 ∷ 0 ∷ 16
-          ∷ 3 ∷ 1 ∷ 0 ∷ 2 ∷ 0 ∷ [];
-      room = 9;
-      number = 6;
-      place = 3;
-      samples = pos 0 ∷ pos 0 ∷ pos 0 ∷ negsuc 1844 ∷ negsuc 157207 ∷ [];
-    }
-    ∷ record {
-      bytes =
-          1 ∷ 2 ∷ 3 ∷ 0 ∷ 160 ∷ 15 ∷ 96 ∷ 234 ∷ 48 ∷ 9 ∷ 0 ∷ 2 ∷ 0 ∷ 1 ∷ 4 ∷ 0 ∷ 6 ∷ 2 ∷ 0 ∷ 0 ∷ 16
-          ∷ 133 ∷ 1 ∷ 0 ∷ 0 ∷ 16 ∷ [];
-      room = 9;
-      number = 6;
-      place = 3;
-      samples = pos 0 ∷ pos 0 ∷ pos 0 ∷ negsuc 1844 ∷ negsuc 157207 ∷ [];
-    }
-    ∷ record {
-      bytes =
-          1 ∷ 2 ∷ 3 ∷ 0 ∷ 160 ∷ 15 ∷ 96 ∷ 234 ∷ 48 ∷ 9 ∷ 0 ∷ 2 ∷ 0 ∷ 1 ∷ 4 ∷ 0 ∷ 6 ∷ 2 ∷ 0 ∷ 0 ∷ 16
-          ∷ 3 ∷ 2 ∷ 0 ∷ 3 ∷ 0 ∷ [];
-      room = 9;
-      number = 0;
-      place = 4;
-      samples = pos 0 ∷ pos 0 ∷ pos 0 ∷ negsuc 1844 ∷ negsuc 157207 ∷ negsuc 128744 ∷ [];
-    }
-    ∷ record {
-      bytes =
-          1 ∷ 2 ∷ 3 ∷ 0 ∷ 160 ∷ 15 ∷ 96 ∷ 234 ∷ 48 ∷ 9 ∷ 0 ∷ 2 ∷ 0 ∷ 1 ∷ 4 ∷ 0 ∷ 49 ∷ 1 ∷ 0 ∷ 0 ∷ 1
-          ∷ 0 ∷ 0 ∷ 1 ∷ 3 ∷ 0 ∷ [];
-      room = 7;
-      number = 7;
-      place = 2;
-      samples = pos 0 ∷ pos 0 ∷ pos 0 ∷ negsuc 1844 ∷ negsuc 157207 ∷ [];
-    }
-    ∷ record {
-      bytes =
-          1 ∷ 2 ∷ 3 ∷ 0 ∷ 160 ∷ 15 ∷ 96 ∷ 234 ∷ 48 ∷ 9 ∷ 0 ∷ 2 ∷ 0 ∷ 1 ∷ 4 ∷ 0 ∷ 49 ∷ 1 ∷ 0 ∷ 255
-          ∷ 0 ∷ 0 ∷ 0 ∷ 1 ∷ 3 ∷ 0 ∷ [];
-      room = 7;
-      number = 8;
-      place = 2;
-      samples = pos 0 ∷ pos 0 ∷ pos 0 ∷ negsuc 1844 ∷ negsuc 157207 ∷ [];
-    }
-    ∷ record {
-      bytes =
-          1 ∷ 2 ∷ 3 ∷ 0 ∷ 160 ∷ 15 ∷ 96 ∷ 234 ∷ 48 ∷ 9 ∷ 0 ∷ 2 ∷ 0 ∷ 1 ∷ 4 ∷ 0 ∷ 49 ∷ 1 ∷ 0 ∷ 255
-          ∷ 0 ∷ 1 ∷ 8 ∷ 1 ∷ 3 ∷ 0 ∷ [];
-      room = 7;
-      number = 8;
-      place = 2;
-      samples = pos 0 ∷ pos 0 ∷ pos 0 ∷ negsuc 1844 ∷ negsuc 157207 ∷ [];
-    }
     ∷ []
 
 pub record ScoreRows : Type 0 where
-  pub headers : given headers ≡ headers
-  pub unopened : given unopened ≡ unopened
-  pub fields : given fields ≡ fields
-  pub counts : given counts ≡ counts
-  pub refused : given refused ≡ refused
+  pub limits : given limits ≡ limits

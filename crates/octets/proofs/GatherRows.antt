@@ -6,14 +6,4 @@ use Rattle.octets.specs.GatherRows.{GatherRows}
 
 pub gather-rows : GatherRows
 unfolding number
-gather-rows = record {
-  first = refl;
-  last = refl;
-  seven = refl;
-  two = refl;
-  one = refl;
-  end = refl;
-  greatest = refl;
-  full = refl;
-  empty = refl;
-}
+gather-rows = record { first = refl; seven = refl; end = refl; greatest = refl; empty = refl }

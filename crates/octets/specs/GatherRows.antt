@@ -7,18 +7,10 @@ use Rattle.octets.specs.Octets.{gathered}
 pub record GatherRows : Type 0 where
   -- eight bytes, and two that are left out
   pub first : gathered (239 ∷ 0 ∷ 18 ∷ 255 ∷ 52 ∷ 1 ∷ 128 ∷ 86 ∷ 254 ∷ 120 ∷ []) 0 ≡ 6232983211410063599
-  -- the last eight
-  pub last : gathered (239 ∷ 0 ∷ 18 ∷ 255 ∷ 52 ∷ 1 ∷ 128 ∷ 86 ∷ 254 ∷ 120 ∷ []) 2 ≡ 8718501036411911954
   -- one byte is missing
   pub seven : gathered (239 ∷ 0 ∷ 18 ∷ 255 ∷ 52 ∷ 1 ∷ 128 ∷ 86 ∷ 254 ∷ 120 ∷ []) 3 ≡ 34056644673484031
-  -- six are
-  pub two : gathered (239 ∷ 0 ∷ 18 ∷ 255 ∷ 52 ∷ 1 ∷ 128 ∷ 86 ∷ 254 ∷ 120 ∷ []) 8 ≡ 30974
-  -- the last byte alone
-  pub one : gathered (239 ∷ 0 ∷ 18 ∷ 255 ∷ 52 ∷ 1 ∷ 128 ∷ 86 ∷ 254 ∷ 120 ∷ []) 9 ≡ 120
   -- a start at the end, and the greatest
   pub end : gathered (239 ∷ 0 ∷ 18 ∷ 255 ∷ 52 ∷ 1 ∷ 128 ∷ 86 ∷ 254 ∷ 120 ∷ []) 10 ≡ 0
   pub greatest : gathered (239 ∷ 0 ∷ 18 ∷ 255 ∷ 52 ∷ 1 ∷ 128 ∷ 86 ∷ 254 ∷ 120 ∷ []) 18446744073709551615 ≡ 0
-  -- the greatest word
-  pub full : gathered (255 ∷ 255 ∷ 255 ∷ 255 ∷ 255 ∷ 255 ∷ 255 ∷ 255 ∷ []) 0 ≡ 18446744073709551615
   -- no byte at all
   pub empty : gathered [] 0 ≡ 0

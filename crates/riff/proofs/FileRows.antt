@@ -7,4 +7,4 @@ use Rattle.riff.specs.FileRows.{FileRows}
 
 pub file-rows : FileRows
 unfolding file header stored bytes
-file-rows = record { silent = refl; odd = refl; even = refl }
+file-rows = record { odd = refl; even = refl }

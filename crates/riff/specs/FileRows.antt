@@ -6,13 +6,6 @@ use lib.IntN.{pos, negsuc}
 use Rattle.riff.specs.Format.{file}
 
 pub record FileRows : Type 0 where
-  -- no sample at all
-  pub silent :
-      file 192000 []
-      ≡
-      82 ∷ 73 ∷ 70 ∷ 70 ∷ 36 ∷ 0 ∷ 0 ∷ 0 ∷ 87 ∷ 65 ∷ 86 ∷ 69 ∷ 102 ∷ 109 ∷ 116 ∷ 32 ∷ 16 ∷ 0 ∷ 0
-      ∷ 0 ∷ 1 ∷ 0 ∷ 1 ∷ 0 ∷ 0 ∷ 238 ∷ 2 ∷ 0 ∷ 0 ∷ 202 ∷ 8 ∷ 0 ∷ 3 ∷ 0 ∷ 24 ∷ 0 ∷ 100 ∷ 97 ∷ 116
-      ∷ 97 ∷ 0 ∷ 0 ∷ 0 ∷ 0 ∷ []
   -- a pad byte, which counts in the RIFF size and not in the data size
   pub odd :
       file 44100 (negsuc 17297 ∷ [])

@@ -1,6 +1,7 @@
 //! Rows of files: the bytes of some recordings, as a module of antt.
 
 use super::term::{integer, natural, Term};
+use super::vectors::hex;
 use crate::wav::file;
 
 /// What the module uses.
@@ -18,9 +19,8 @@ pub record FileRows : Type 0 where
 /// A name, what the file shows, its rate and its samples.
 type Recording = (&'static str, &'static str, u32, &'static [i32]);
 
-/// The files.
+/// The files that are theorems.
 const FILES: &[Recording] = &[
-    ("silent", "no sample at all", 192_000, &[]),
     (
         "odd",
         "a pad byte, which counts in the RIFF size and not in the data size",
@@ -29,6 +29,18 @@ const FILES: &[Recording] = &[
     ),
     ("even", "no pad byte; the greatest sample and the lowest", 8_000, &[8_388_607, -8_388_607]),
 ];
+
+/// These files and one without a sample, written and read, as lines of the console.
+pub fn lines() -> Vec<String> {
+    let silent = ("silent", "", 192_000, &[][..]);
+    let line = |(_, _, rate, samples): &Recording| {
+        let bytes = file(*rate, samples);
+        let words: String = samples.iter().map(|sample| format!(" {sample}")).collect();
+        let (room, many) = (bytes.len(), samples.len());
+        [format!("wavwrite {rate} {room}{words}"), format!("wavread {many}{}", hex(&bytes))]
+    };
+    [silent].iter().chain(FILES).flat_map(line).collect()
+}
 
 /// The field of a row.
 fn row((name, about, rate, samples): &Recording) -> String {

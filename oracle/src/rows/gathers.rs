@@ -1,6 +1,7 @@
 //! Rows of words: bytes, a start, and what gathering gives, as a module of antt.
 
 use super::term::{natural, Term};
+use super::vectors::hex;
 use crate::gather::gather;
 
 /// What the module uses.
@@ -20,17 +21,21 @@ const TEN: &[u8] = &[239, 0, 18, 255, 52, 1, 128, 86, 254, 120];
 /// A name, what the row shows, the bytes and the start.
 type Row = (&'static str, &'static str, &'static [u8], usize);
 
+/// The rows that are theorems.
 const ROWS: &[Row] = &[
     ("first", "eight bytes, and two that are left out", TEN, 0),
-    ("last", "the last eight", TEN, 2),
     ("seven", "one byte is missing", TEN, 3),
-    ("two", "six are", TEN, 8),
-    ("one", "the last byte alone", TEN, 9),
     ("end", "a start at the end, and the greatest", TEN, 10),
     ("greatest", "", TEN, usize::MAX),
-    ("full", "the greatest word", &[255; 8], 0),
     ("empty", "no byte at all", &[], 0),
 ];
+
+/// All rows, as lines of the console, whose starts have 32 bits: each start, and the greatest word.
+pub fn lines() -> Vec<String> {
+    let starts = (0..12).chain([4_294_967_295_u32]);
+    let ten = starts.map(|start| format!("gather {start}{}", hex(TEN)));
+    ten.chain([format!("gather 0{}", hex(&[255; 8])), "gather 0".to_string()]).collect()
+}
 
 /// The field of a row.
 fn row((name, about, bytes, start): &Row) -> String {

@@ -71,7 +71,7 @@ pub const LISTS: &[List] = &[
         open: "2 1 10240 65535 0",
         calls: "block 3 1000000 -2000000 3000000; announce 2 2 6145; announce 2 1 7075; block 3 0 0 0;
             instant 2 2048 10240; block 1 0; announce 2 1 8000; instant 2 2 9159; block 2 0 0;
-            loss 65536; loss 0; block 3 0 0 -7",
+            loss 65536; loss 65535; block 1 0; loss 0; block 3 0 0 -7",
     },
     List {
         name: "asked",

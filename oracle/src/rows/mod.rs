@@ -1,5 +1,5 @@
-//! Rows: what this implementation gives for fixed inputs, as modules of antt, to hold definitions to
-//! them by computation.
+//! Rows: what this implementation gives for fixed inputs. Some, both sides of each limit and one for each notion, are
+//! modules of antt, to hold definitions to them by computation; all are a text, to hold the console to.
 
 pub mod answers;
 pub mod files;
@@ -12,6 +12,7 @@ pub mod records;
 pub mod scores;
 pub mod table;
 pub mod term;
+pub mod vectors;
 pub mod voices;
 
 /// A module: its name, and what prints it.

@@ -135,20 +135,32 @@ const NOTES: &[Asked] = &[
     (1, 44_100, 4_294_967_295),
 ];
 
-/// The tables.
-fn all() -> [Table; 7] {
-    [
-        table("orders", "each order and those beside them, whatever rate and note are", ORDERS),
-        table("rates", "both limits of the rate, whatever the note is", RATES),
-        table("notes", "the lowest note, and both sides of the limit", NOTES),
-        table("places", "each place of the octave, o from −6 to 4", &places(11_025)),
-        table("higher", "the same at another rate, where 13 refuses the lowest", &places(96_000)),
-        table("lengths", "both sides of L 2,048 and of L 1, and L below zero", &lengths()),
-        table("delays", "both ends of the order's range of d", &delays()),
-    ]
+/// Both sides of each limit, and a note of order 3: the rows that are theorems.
+fn limits() -> Vec<Asked> {
+    let sides = [
+        (3, 44_100, 69),
+        (1, 7_999, 60),
+        (1, 8_000, 60),
+        (1, 192_001, 60),
+        (1, 192_000, 127),
+        (1, 192_000, 128),
+    ];
+    let refused = |(number, _, _)| number == 13;
+    let most = turn(1, 10, |(_, length, _)| length == 2_048, refused);
+    let least = turn(1, 120, refused, |(_, length, _)| length == 1);
+    [sides.to_vec(), most.to_vec(), least.to_vec()].concat()
+}
+
+/// All rows, as lines of the console.
+pub fn lines() -> Vec<String> {
+    let (rates, higher) = (places(11_025), places(96_000));
+    let (lengths, delays, limits) = (lengths(), delays(), limits());
+    let all = [ORDERS, RATES, NOTES, &rates, &higher, &lengths, &delays, &limits].concat();
+    all.iter().map(|(order, rate, m)| format!("note {order} {rate} {m}")).collect()
 }
 
 /// The module `NoteRows`.
 pub fn module() -> String {
-    format!("{HEAD}{}", tables("NoteRows", &all()))
+    let about = "both sides of each limit, and a note of order 3";
+    format!("{HEAD}{}", tables("NoteRows", &[table("limits", about, &limits())]))
 }

@@ -2,6 +2,7 @@
 
 use super::table::{tables, Table};
 use super::term::{naturals, Term};
+use super::vectors::hex;
 use crate::record::read_record;
 use crate::refusal::number;
 
@@ -10,8 +11,7 @@ const HEAD: &str = "\
 -- definitions. It printed this text; proofs/RecordRows.antt proves them by computation. Assumes nothing.
 use mathlib.Core.Path.{_≡_}
 use mathlib.Core.List.{List, [], _∷_}
-use Prim.Native.Nat.{ℕ, zero, suc}
-use lib.ListN.{getD}
+use Prim.Native.Nat.{ℕ}
 use Rattle.record.specs.Record.{fields, rest}
 
 -- bytes, and what it gives: number, bit map, wait, L, d, G, amplitude, count, seed; the part handed back
@@ -27,13 +27,6 @@ row r = record { bytes = r .bytes; fields = fields (r .bytes); rest = rest (r .b
 abbrev pub given : List Row → List Row
 given [] = []
 given (r ∷ rs) = row r ∷ given rs
-
--- the numbers of n bit maps from map on, each before fourteen bytes
-abbrev pub numbers : ℕ → ℕ → List ℕ
-numbers map zero = []
-numbers map (suc n) =
-    let s = map ∷ 1 ∷ 2 ∷ 3 ∷ 4 ∷ 5 ∷ 6 ∷ 7 ∷ 8 ∷ 9 ∷ 10 ∷ 11 ∷ 12 ∷ 13 ∷ 14 ∷ [] in
-    getD (fields s) 0 0 ∷ numbers (suc map) n
 
 ";
 
@@ -57,18 +50,6 @@ fn row(bytes: &[u8]) -> Term {
     Term::Record(vec![("bytes", list(bytes)), ("fields", naturals(&fields)), ("rest", list(rest))])
 }
 
-/// A table of these bytes.
-fn table(name: &'static str, about: &'static str, bytes: impl Iterator<Item = Vec<u8>>) -> Table {
-    Table { name, about, rows: bytes.map(|bytes| row(&bytes)).collect() }
-}
-
-/// The definition of the numbers of all bit maps, each before fourteen bytes.
-fn maps() -> String {
-    let given: Vec<u32> = (0..=255).map(|map| number(&read_record(&bytes(map, 14)).0)).collect();
-    let about = "-- every bit map from 0 to 255: 0 where it is well formed, else 15";
-    format!("{about}\nabbrev pub maps : List ℕ\nmaps ={}\n\n", naturals(&given).spread(""))
-}
-
 /// Bit maps with bits 5, 6 and 7, with and without what they need, and how many bytes are there.
 const FORMED: &[(u8, usize)] =
     &[(0x30, 6), (0x50, 6), (0x60, 4), (0x82, 4), (0x84, 4), (0x99, 6), (0xE6, 10), (0xF9, 12)];
@@ -76,29 +57,29 @@ const FORMED: &[(u8, usize)] =
 /// Records that are cut short or are not well formed, or both.
 const FIRST: &[(u8, usize)] = &[(0x60, 3), (0x60, 4), (0x81, 1), (0x81, 2)];
 
-/// The tables.
-fn all() -> [Table; 4] {
-    let alone = (0..8).map(|bit| 1 << bit);
+/// The bytes of the rows that are theorems: no byte; all bits, a byte missing and a byte more; bits 5, 6 and 7
+/// without what they need; 14 before 15.
+fn limits() -> Vec<Vec<u8>> {
+    let all = bytes(255, 16);
+    let ill = [(0x20, 2), (0x40, 2), (0x81, 2), (0x60, 3)].map(|(map, many)| bytes(map, many));
+    [vec![vec![], all[..14].to_vec(), all[..16].to_vec()], ill.to_vec()].concat()
+}
+
+/// All rows, as lines of the console: no bit and every bit alone; all bits, cut at each byte; bits 5, 6 and 7;
+/// every bit map before fourteen bytes.
+pub fn lines() -> Vec<String> {
+    let alone = [0].into_iter().chain((0..8).map(|bit| 1 << bit)).map(|map| bytes(map, 4));
     let cut = (0..=16).map(|many| bytes(255, 16)[..many].to_vec());
-    let bytes = |&(map, many): &(u8, usize)| bytes(map, many);
-    [
-        table(
-            "alone",
-            "no bit, and every bit alone",
-            [0].into_iter().chain(alone).map(|map| bytes(&(map, 4))),
-        ),
-        table("cut", "all bits, cut at each byte; whole, and with a byte after it", cut),
-        table("first", "14 comes before 15", FIRST.iter().map(bytes)),
-        table(
-            "formed",
-            "bits 5, 6 and 7, with and without what they need",
-            FORMED.iter().map(bytes),
-        ),
-    ]
+    let formed = FIRST.iter().chain(FORMED).map(|&(map, many)| bytes(map, many));
+    let maps = (0..=255).map(|map| bytes(map, 14));
+    let all = alone.chain(cut).chain(formed).chain(maps).chain(limits());
+    all.map(|bytes| format!("record{}", hex(&bytes))).collect()
 }
 
 /// The module `RecordRows`.
 pub fn module() -> String {
-    let tables = tables("RecordRows", &all());
-    format!("{HEAD}{}{tables}  pub maps : numbers 0 256 ≡ maps\n", maps())
+    let about =
+        "no byte; all bits, a byte missing and one more; bits 5, 6 and 7 alone; 14 before 15";
+    let rows = limits().iter().map(|bytes| row(bytes)).collect();
+    format!("{HEAD}{}", tables("RecordRows", &[Table { name: "limits", about, rows }]))
 }

@@ -2,6 +2,7 @@
 
 use super::table::{tables, Table};
 use super::term::{integers, natural, naturals, Term};
+use super::vectors::hex;
 use crate::cases::score_fields::record_bytes;
 use crate::record::{Record, AMPLITUDE, COUNT, DELAY, INSTANT, LENGTH, LOSS, SEED, WAIT};
 use crate::refusal::number;
@@ -207,22 +208,29 @@ fn refused() -> Vec<Case> {
     ]
 }
 
-/// The tables.
-fn all() -> [Table; 5] {
-    [
-        table("headers", "each number of the header, heard; no record at all", &headers()),
-        table("unopened", "14 in the header, cut at each byte; 1, 2, 3 and 5 of Open", &unopened()),
-        table("fields", "each field absent and present", &fields()),
-        table(
-            "counts",
-            "a pluck of 100 samples, or of the count that is given, at each L",
-            &counts(),
-        ),
-        table("refused", "each refusal of a record, after samples that stand", &refused()),
-    ]
+/// The rows that are theorems: the header cut, and alone; a wait that does not fit and one that does; an absent count
+/// at the greatest L; every field; a change while one waits.
+fn limits() -> Vec<Case> {
+    let (unopened, mut headers, mut fields) = (unopened(), headers(), fields());
+    let refused = refused();
+    let whole = headers.pop().expect("a score without records");
+    let every = fields.pop().expect("a score with every field");
+    let [cut, full, fits, again] = [&unopened[7], &refused[4], &refused[5], &refused[8]];
+    let some = [cut, full, fits, again].map(Case::clone).to_vec();
+    [some, vec![whole, every, plucked(2_048, &[], 104)]].concat()
+}
+
+/// All rows, as lines of the console.
+pub fn lines() -> Vec<String> {
+    let all = [headers(), unopened(), fields(), counts(), refused()].concat();
+    let line = |(header, records, room): &Case| {
+        format!("run {room}{}", hex(&[header.clone(), records.concat()].concat()))
+    };
+    all.iter().map(line).collect()
 }
 
 /// The module `ScoreRows`.
 pub fn module() -> String {
-    format!("{HEAD}{}", tables("ScoreRows", &all()))
+    let about = "the header cut, and alone; 16 on both sides; 6; every field; an absent count";
+    format!("{HEAD}{}", tables("ScoreRows", &[table("limits", about, &limits())]))
 }

@@ -105,13 +105,36 @@ fn openings() -> String {
     )
 }
 
-/// The lists of the rows; the field `asked` among the last hides the kind of that name from those after it.
+/// The lists of the rows.
 pub fn lists() -> impl Iterator<Item = &'static List> {
     orders::LISTS.iter().chain(lists::LISTS)
 }
 
+/// The lists that are theorems: each call, with both sides of its limits, and each notion of the voice.
+const PROVED: &[&str] = &[
+    "orders-announced",
+    "orders-asked",
+    "orders-refused",
+    "clips",
+    "early",
+    "at-once",
+    "plucks",
+    "refused1",
+];
+
+/// All openings and lists, as lines of the console, with the voice and the line that each leaves.
+pub fn lines() -> Vec<String> {
+    let opened = OPENINGS.iter().flat_map(|words| [format!("open {words}"), "state".to_string()]);
+    let called = lists().flat_map(|list| {
+        let line = Answers::to(list).line().len();
+        let calls = list.calls.replace(';', "\n");
+        [format!("open {}\n{calls}\nstate\nline {line}", list.open)]
+    });
+    opened.chain(called).collect()
+}
+
 /// The module `Rows`.
 pub fn module() -> String {
-    let rows: String = lists().map(row).collect();
+    let rows: String = lists().filter(|list| PROVED.contains(&list.name)).map(row).collect();
     format!("{HEAD}{}{rows}", openings())
 }
