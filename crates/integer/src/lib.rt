@@ -7,7 +7,7 @@ pub mod toward;
 ghost use mathlib.Core.Path.{_≡_};
 ghost use Prim.Native.Nat.{_+_, _*_, _%_, _^_, _≤_, _<_};
 ghost use lib.IntN.{natAbs};
-ghost use Rattle.integer.specs.Rounding.{clip as Clip, floor, nearest as Nearest};
+ghost use Rattle.integer.specs.Rounding.{clip as Clip, floor, nearest};
 
 pub struct Value {
     pub n: i64,
@@ -40,9 +40,9 @@ pub fn floor_div(u: Value, m: u64) -> Value
 }
 
 // p / q to the nearest, a half upward.
-pub fn nearest(p: Value, q: u64) -> Value
+pub fn round_half_up(p: Value, q: u64) -> Value
     requires { ⌜ (0 < q) × (2 * natAbs (p .n) + 3 * q ≤ 2 ^ 62) ⌝ }
-    ensures { λ r. ⌜ r .n ≡ Nearest (p .n) q ⌝ }
+    ensures { λ r. ⌜ r .n ≡ nearest (p .n) q ⌝ }
 {
     let k = q as i64;
     floor_div(Value { n: 2 * p.n + k }, 2 * q)

@@ -6,10 +6,10 @@ ghost use Prim.Native.Nat.{_+_, _*_, _/_, _^_, _≤_, _<_};
 ghost use lib.IntN.{pos};
 ghost use lib.ListN.{getD};
 ghost use Rattle.integer.specs.Parts.{up};
-ghost use Rattle.integer.specs.Rounding.{nearest as Nearest};
+ghost use Rattle.integer.specs.Rounding.{nearest};
 ghost use Rattle.refusal.specs.Limits.{refusal};
 ghost use Rattle.refusal.specs.Orders.{orders};
-ghost use Rattle.pitch.specs.Pitch.{octave, k, period as Period, splitL, noteLength, answer, pitch};
+ghost use Rattle.pitch.specs.Pitch.{octave, k, period, splitL, noteLength, answer, pitch};
 use refusal::NOTE;
 use refusal::NOTE_LENGTH;
 use refusal::ORDER;
@@ -57,19 +57,19 @@ fn divisor(m: u32) -> u64
 }
 
 // above / below to the nearest, a half upward.
-fn nearest(above: u64, below: u64) -> u64
+fn round_half_up(above: u64, below: u64) -> u64
     requires { ⌜ (0 < below) × (2 * above + 2 * below < 2 ^ 64) ⌝ }
-    ensures { λ r. ⌜ pos r ≡ Nearest (pos above) below ⌝ }
+    ensures { λ r. ⌜ pos r ≡ nearest (pos above) below ⌝ }
 {
     (2 * above + below) / (2 * below)
 }
 
 // T, with 2^42 above for that power.
-fn period(rate: u32, m: u32) -> u32
+fn loop_period(rate: u32, m: u32) -> u32
     requires { ⌜ (rate ≤ 192000) × (m ≤ 127) ⌝ }
-    ensures { λ r. ⌜ pos r ≡ Period rate m ⌝ }
+    ensures { λ r. ⌜ pos r ≡ period rate m ⌝ }
 {
-    nearest((rate as u64) * 4_398_046_511_104, divisor(m)) as u32
+    round_half_up((rate as u64) * 4_398_046_511_104, divisor(m)) as u32
 }
 
 // L where T is t, and 0 where L is below zero.
@@ -128,5 +128,5 @@ pub fn note(order: u32, rate: u32, m: u32) -> Pitch
             delay: 0,
         };
     }
-    split(order, period(rate, m))
+    split(order, loop_period(rate, m))
 }

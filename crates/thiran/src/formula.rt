@@ -3,13 +3,13 @@
 ghost use mathlib.Core.Path.{_≡_};
 ghost use Prim.Native.Nat.{_+_, _<_};
 ghost use lib.IntN.{pos, _*ℤ_};
-ghost use Rattle.integer.specs.Rounding.{nearest as Nearest};
+ghost use Rattle.integer.specs.Rounding.{nearest};
 ghost use Rattle.refusal.specs.Orders.{Takes, orders};
 ghost use Rattle.thiran.specs.Coefficients.{coefficients};
 ghost use Rattle.thiran.specs.Steps.{part, Roundable};
 ghost use Rattle.thiran.specs.Answers.{padded};
 use integer::Value;
-use integer::nearest;
+use integer::round_half_up;
 
 pub struct Coefficients {
     pub a1: i64,
@@ -42,9 +42,9 @@ fn next(p: Ratio, order: u32, d: u32, k: u32) -> Ratio
 // 65,536 times a fraction, to the nearest whole number, a half upward.
 fn rounded(p: Ratio) -> Value
     requires { ⌜ Roundable p ⌝ }
-    ensures { λ r. ⌜ r .n ≡ Nearest (pos 65536 *ℤ p .top) (p .bottom) ⌝ }
+    ensures { λ r. ⌜ r .n ≡ nearest (pos 65536 *ℤ p .top) (p .bottom) ⌝ }
 {
-    nearest(Value { n: 65_536 * p.top }, p.bottom)
+    round_half_up(Value { n: 65_536 * p.top }, p.bottom)
 }
 
 // A1 .. AN, and 0 past the order.

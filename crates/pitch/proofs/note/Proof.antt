@@ -44,8 +44,8 @@ returns-3 c =
     let b = c .before .before in
     rw (kept1 (b .before .before), kept2 b, sym (c .before .outside3 .ensures) ∙ c .if3 .taken)
 
-period-requires : tie.Need-period-requires
-period-requires c κs =
+loop-period-requires : tie.Need-loop-period-requires
+loop-period-requires c κs =
     let b = c .before .before in
     let a = b .before .before .before .before .args in
     omega (arith, is-kept (rate (a .rate)) (kept2 b), is-kept (note (a .m)) (kept3 c))
@@ -60,7 +60,7 @@ unfolding pitch
 returns-4 c =
     let p = c .before in
     let b = p .before .before .before in
-    rw (kept1 (b .before .before), kept2 b, kept3 (p .before), ← p .period .ensures) (c .split .ensures)
+    rw (kept1 (b .before .before), kept2 b, kept3 (p .before), ← p .loop-period .ensures) (c .split .ensures)
 
 pub note-spec : {M : Type 1} → statement M
 note-spec =
@@ -72,6 +72,6 @@ note-spec =
     returns-2
     outside-requires-3
     returns-3
-    period-requires
+    loop-period-requires
     split-requires
     returns-4)

@@ -24,12 +24,12 @@ module _ (c : tie.After-struct-told) where
 mul-t2 : tie.Need-mul-t2
 mul-t2 c = rw (p-read c) (scaled-fits c)
 
-nearest-requires : tie.Need-nearest-requires
-nearest-requires c κs =
+round-half-up-requires : tie.Need-round-half-up-requires
+round-half-up-requires c κs =
     rw (p-read c, toZ-ofZ (scaled-fits c)) (omega (arith, abs-* (pos 65536) (p c)))
 
 returns : tie.Need-returns
-returns c = rw (p-read (c .before), toZ-ofZ (scaled-fits (c .before))) at (c .nearest .ensures)
+returns c = rw (p-read (c .before), toZ-ofZ (scaled-fits (c .before))) at (c .round-half-up .ensures)
 
 pub rounded-spec : {M : Type 1} → statement M
-rounded-spec = tie.close (tie.spec mul-t2 nearest-requires returns)
+rounded-spec = tie.close (tie.spec mul-t2 round-half-up-requires returns)

@@ -1,4 +1,4 @@
--- `integer::nearest` meets its contract: the floor of (2 p + q) / (2 q).
+-- `integer::round_half_up` meets its contract: the floor of (2 p + q) / (2 q).
 -- Assumes nothing.
 use mathlib.Core.Path.{_≡_, refl}
 use Prim.Native.Nat.{ℕ, _*_}
@@ -12,8 +12,8 @@ use mir.ValLaws.{toZ-pos}
 use Rattle.integer.specs.Rounding.{nearest}
 use Rattle.integer.proofs.View.{read, abs-fits}
 use Rattle.integer.proofs.Ring.{abs-*, abs-+}
-use Rattle.integer.proofs.nearest.Statement.{statement}
-use Rattle.integer.proofs.nearest.Tie as tie
+use Rattle.integer.proofs.round_half_up.Statement.{statement}
+use Rattle.integer.proofs.round_half_up.Tie as tie
 
 module _ (c : tie.After-struct-told) where
   abbrev p : ℤ
@@ -55,5 +55,5 @@ returns c =
     let b = c .before in
     rw (p-read b, q-read b, toZ-ofZ (twice-fits b), toZ-ofZ (sum-fits b)) at (c .floor-div .ensures)
 
-pub nearest-spec : {M : Type 1} → statement M
-nearest-spec = tie.close (tie.spec cast-k mul-t4 add-t5 mul-floor-div floor-div-requires returns)
+pub round-half-up-spec : {M : Type 1} → statement M
+round-half-up-spec = tie.close (tie.spec cast-k mul-t4 add-t5 mul-floor-div floor-div-requires returns)

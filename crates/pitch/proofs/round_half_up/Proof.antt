@@ -1,10 +1,10 @@
--- `pitch::nearest` meets its contract: it is the definition, at numbers that are not below zero.
+-- `pitch::round_half_up` meets its contract: it is the definition, at numbers that are not below zero.
 -- Assumes nothing.
 use mathlib.Core.Path.{refl}
 use borrow.Author.Needs.{needs}
 use Rattle.integer.specs.Rounding.{floor, nearest}
-use Rattle.pitch.proofs.nearest.Statement.{statement}
-use Rattle.pitch.proofs.nearest.Tie as tie
+use Rattle.pitch.proofs.round_half_up.Statement.{statement}
+use Rattle.pitch.proofs.round_half_up.Tie as tie
 
 mul-result : tie.Need-mul-result
 mul-result c = search needs
@@ -22,5 +22,5 @@ returns : tie.Need-returns
 unfolding nearest floor
 returns c = refl
 
-pub nearest-spec : {M : Type 1} → statement M
-nearest-spec = tie.close (tie.spec mul-result add-result mul-result-2 div-result returns)
+pub round-half-up-spec : {M : Type 1} → statement M
+round-half-up-spec = tie.close (tie.spec mul-result add-result mul-result-2 div-result returns)
