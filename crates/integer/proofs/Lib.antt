@@ -1,6 +1,7 @@
 pub mod View
 pub mod Ring
 pub mod Rounding
+pub mod Theorems
 pub mod Cut
 pub mod Sides
 mod Quotient

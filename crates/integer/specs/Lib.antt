@@ -2,3 +2,4 @@ pub mod Parts
 pub mod Rounding
 pub mod Cut
 pub mod Toward
+pub mod Theorems

@@ -1,5 +1,5 @@
 -- Floor division, rounding to the nearest and clipping of whole numbers, as document 01 has them.
--- Definitions alone: proofs/Rounding.antt has their laws. Assumes nothing.
+-- Definitions alone: specs/Theorems.antt has what they are from outside, proofs/Rounding.antt their laws.
 use Prim.Native.Nat.{ℕ, suc, _*_, _/_, min}
 use lib.IntN.{ℤ, pos, negsuc, negℤ, _+ℤ_, _*ℤ_}
 use lib.Signed.{_≤ℤ_, _<ℤ_}
