@@ -1,5 +1,5 @@
--- Document 02, L1: what is written reads back, what is read is written again byte by byte, and is block input.
--- Statements alone: proofs/Theorems.antt proves them. Assumes nothing.
+-- Document 02, L1: what a voice puts out can be written, what is written reads back, what is read is written again
+-- byte by byte, and is block input. Statements alone: proofs/Rendered.antt and Theorems.antt prove them.
 use mathlib.Core.Path.{_≡_}
 use mathlib.Core.List.{List, [], _∷_, _++_}
 use Prim.Native.Nat.{ℕ, _+_, _*_, _^_, _≤_, _<_}
@@ -8,11 +8,23 @@ use lib.ListN.{length, getD, take, drop}
 use Rattle.integer.specs.Rounding.{M}
 use Rattle.allpass.specs.Bounds.{Within}
 use Rattle.rule.specs.Voice.{Voice}
-use Rattle.rule.specs.Calls.{block, number}
-use Rattle.riff.specs.Format.{riffSize, file}
+use Rattle.rule.specs.Calls.{Call, Opening, block, number}
+use Rattle.rule.specs.State.{State, fresh, puts}
+use Rattle.riff.specs.Format.{riffSize, fileSize, file}
 use Rattle.riff.specs.Held.{rateOf, heldIn, samplesOf}
 use Rattle.wav.specs.Written.{written, left}
 use Rattle.wav.specs.Recorded.{recorded, filled}
+use Rattle.wav.specs.Refusals.{Rated, Room}
+
+-- "rendered samples must leave as RIFF WAVE": all that a list of calls puts out, from an opening or from any voice, is
+-- samples, so that writing it is never refused by 10, and at a rate and in a slice within the limits never at all
+pub record Rendered : Type 0 where
+  pub within : (v : State) (cs : List Call) → Within M (puts v cs)
+  pub never-10 : (v : State) (cs : List Call) (fs room : ℕ) → written fs (puts v cs) room .refusal ≡ 10 → ⊥
+  pub leaves : (o : Opening) (cs : List Call) (fs : ℕ) (old : List ℕ)
+      → let ys = puts (fresh o) cs in
+      Rated fs → Room (length ys) (fileSize (length ys)) (length old)
+      → left fs ys old ≡ file fs ys ++ drop (length (file fs ys)) old
 
 -- "Reading a written file gives the samples and rate back": the form of every rate and all samples whose sizes
 -- fit their fields, and what writing left, read into any slice that is long enough
