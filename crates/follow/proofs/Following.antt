@@ -5,6 +5,7 @@ use mathlib.Core.Bool.{Bool, true, false, cond}
 use mathlib.Core.List.{List, [], _∷_, _++_}
 use Prim.Native.Nat.{ℕ, _+_}
 use native.Mathlib.Omega.{arith}
+use native.Mathlib.Decide.{ℕ-discrete}
 use borrow.Author.Tests.{eq-eqb, ne-eqb}
 use lib.Dec.{eqb}
 use lib.IntN.{ℤ}
@@ -82,6 +83,36 @@ pub no-calls : (r : List ℕ) (v : State) → stands r 3 ≡ 0 → stands r 1 + 
 unfolding actCalls then
 no-calls r v e i j =
     rw (eq-eqb (stands r 3) 0 e, eq-eqb (stands r 1 + stands r 2) 0 i, eq-eqb (stands r 4) 0 j)
+
+-- something to set: a call comes first, whichever bit stands
+not-none : {c : Call} {cs : List Call} → _≡_ {A = List Call} (c ∷ cs) [] → ⊥
+not-none e = let z : _≡_ {A = ℕ} 1 0 = cc (ap shape e) in omega arith
+  where
+    shape : List Call → ℕ
+    shape [] = 0
+    shape (c ∷ cs) = 1
+
+pub some-call : (r : List ℕ) (v : State) → actCalls r v ≡ []
+    → (stands r 3 ≡ 0) × (stands r 1 + stands r 2 ≡ 0) × (stands r 4 ≡ 0)
+unfolding actCalls then
+some-call r v e = loss-first (ℕ-discrete (stands r 3) 0)
+  where
+    pluck-last : stands r 3 ≡ 0 → stands r 1 + stands r 2 ≡ 0 → Dec (stands r 4 ≡ 0)
+        → (stands r 3 ≡ 0) × (stands r 1 + stands r 2 ≡ 0) × (stands r 4 ≡ 0)
+    pluck-last i j (yes k) = (i, j, k)
+    pluck-last i j (no f) =
+        absurd (not-none (rw (eq-eqb (stands r 3) 0 i, eq-eqb (stands r 1 + stands r 2) 0 j,
+          ne-eqb (stands r 4) 0 f) at e))
+
+    change-next : stands r 3 ≡ 0 → Dec (stands r 1 + stands r 2 ≡ 0)
+        → (stands r 3 ≡ 0) × (stands r 1 + stands r 2 ≡ 0) × (stands r 4 ≡ 0)
+    change-next i (yes j) = pluck-last i j (ℕ-discrete (stands r 4) 0)
+    change-next i (no f) =
+        absurd (not-none (rw (eq-eqb (stands r 3) 0 i, ne-eqb (stands r 1 + stands r 2) 0 f) at e))
+
+    loss-first : Dec (stands r 3 ≡ 0) → (stands r 3 ≡ 0) × (stands r 1 + stands r 2 ≡ 0) × (stands r 4 ≡ 0)
+    loss-first (yes i) = change-next i (ℕ-discrete (stands r 1 + stands r 2) 0)
+    loss-first (no f) = absurd (not-none (rw (ne-eqb (stands r 3) 0 f) at e))
 
 -- sums that are 0
 pub none-both : (a b : ℕ) → a + b ≡ 0 → (a ≡ 0) × (b ≡ 0)

@@ -1,5 +1,6 @@
 -- The calls that a record of a score makes on a voice. A record r is the nine numbers that reading it gives.
 -- Definitions alone. Assumes nothing.
+use mathlib.Core.Path.{_≡_}
 use mathlib.Core.Bool.{Bool, cond}
 use mathlib.Core.List.{List, [], _∷_, _++_}
 use Prim.Native.Nat.{ℕ, _+_}
@@ -48,6 +49,13 @@ change r v = cond (absent r 7) (announce (changeTo r v)) (instant (changeTo r v)
 -- "no bit 1 or 2, no change"
 abbrev pub changeCalls : List ℕ → State → List Call
 changeCalls r v = cond (eqb (stands r 1 + stands r 2) 0) [] (change r v ∷ [])
+
+-- a change, announced, and nothing else beside the wait, by the bits: no G, no pluck, and not instant
+pub record Announces (r : List ℕ) : Type 0 where
+  pub changes : stands r 1 + stands r 2 ≡ 0 → ⊥
+  pub no-loss : stands r 3 ≡ 0
+  pub no-pluck : stands r 4 ≡ 0
+  pub announced : stands r 7 ≡ 0
 
 -- an absent count means "100 samples" (document 02, L2; document 01 had the L in force)
 abbrev pub countOf : List ℕ → ℕ

@@ -2,13 +2,14 @@
 // A record is the nine numbers that reading it gives.
 ghost use mathlib.Core.Path.{_≡_};
 ghost use mathlib.Core.Bool.{true, false};
+ghost use mathlib.Core.Logic.{_↔_};
 ghost use mathlib.Core.List.{List, [], _∷_};
 ghost use lib.IntN.{ℤ};
 ghost use Rattle.rule.specs.Calls.{announce as Announce};
 ghost use Rattle.rule.specs.State.{State};
 ghost use Rattle.voice.specs.Struct.{stateOf};
 ghost use Rattle.voice.specs.Valid.{Fit, Valid};
-ghost use Rattle.follow.specs.Follow.{lossCalls, changeCalls, changeTo, pluckCalls, actCalls};
+ghost use Rattle.follow.specs.Follow.{lossCalls, changeCalls, changeTo, pluckCalls, actCalls, Announces};
 ghost use Rattle.follow.specs.Does.{Does};
 use crate::changes::chosen;
 use record::AMPLITUDE;
@@ -84,7 +85,7 @@ fn pluck(head: Head, r: &[u32; 9]) -> Answer
 
 // Whether a record sets anything.
 pub fn sets(r: &[u32; 9]) -> bool
-    ensures { λ b. ⌜ (b ≡ false → (v : State) → actCalls (now (r .entry)) v ≡ []) ⌝ }
+    ensures { λ b. ⌜ ((v : State) → (b ≡ false) ↔ (actCalls (now (r .entry)) v ≡ [])) ⌝ }
 {
     let map = r[MAP];
     let change = bit(map, HAS_LENGTH) + bit(map, HAS_DELAY);
@@ -94,6 +95,7 @@ pub fn sets(r: &[u32; 9]) -> bool
 
 // Whether a record has an announced change, and nothing else beside its wait.
 pub fn announces(r: &[u32; 9]) -> bool
+    ensures { λ b. ⌜ (b ≡ true) ↔ Announces (now (r .entry)) ⌝ }
     ensures { λ b. ⌜ (b ≡ true → (v : State)
         → actCalls (now (r .entry)) v ≡ Announce (changeTo (now (r .entry)) v) ∷ []) ⌝ }
 {

@@ -51,7 +51,7 @@ header-number s (cut h) = (header-cut s h, λ z. omega arith)
 header-number s (order h f) =
     (header-whole s h (sym (refuses .opens (opening s) .order .1 f)), λ z. omega arith)
 header-number s (long h a f) =
-    (header-whole s h (sym (refuses .opens (opening s) .length .1 (a, f))), λ z. omega arith)
+    (header-whole s h (sym (refuses .opens (opening s) .long .1 (a, f))), λ z. omega arith)
 header-number s (delay h a b f) =
     (header-whole s h (sym (refuses .opens (opening s) .delay .1 (a, (b, f)))), λ z. omega arith)
 header-number s (loss h a b d f) =

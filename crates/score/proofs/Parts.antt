@@ -153,7 +153,7 @@ module _ (t : List ℕ) where
       → (u : State) × Yields v (changeCalls r v) n u × (n ≡ 0 → ⊥)
   change-refused {v = v} g (long {L} {d} a f) =
       let k = manner (keeping v L d) in
-      (call v (k .0), makes v a (k .1) (returns v (keeping v L d) (k .1) .length .1 (ordered g, f)) refl, λ z. omega arith)
+      (call v (k .0), makes v a (k .1) (returns v (keeping v L d) (k .1) .long .1 (ordered g, f)) refl, λ z. omega arith)
   change-refused {v = v} g (delay {L} {d} a l f) =
       let k = manner (keeping v L d) in
       (call v (k .0), makes v a (k .1) (returns v (keeping v L d) (k .1) .delay .1 (ordered g, (l, f))) refl, λ z. omega arith)

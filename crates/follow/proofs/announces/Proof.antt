@@ -1,12 +1,13 @@
 -- `follow::announces` meets its contract: where an announced change stands alone, it is the one call.
--- Assumes nothing.
-use mathlib.Core.Path.{sym, ap, ap₂, _∙_}
-use mathlib.Core.Bool.{false≢true}
+use mathlib.Core.Path.{_≡_, sym, ap, ap₂, _∙_}
+use mathlib.Core.Bool.{not, false≢true}
 use mathlib.Core.List.{[], _∷_}
 use Prim.Native.Nat.{ℕ, _+_}
 use borrow.Author.Needs.{needs}
-use borrow.Author.Tests.{eqb-false, not-true}
+use native.Mathlib.Omega.{arith}
+use borrow.Author.Tests.{eqb-false, ne-eqb, not-true}
 use Rattle.rule.specs.Calls.{Call}
+use Rattle.follow.specs.Follow.{stands}
 use Rattle.follow.proofs.Following.{none-of, change-alone, announced}
 use Rattle.follow.proofs.announces.Statement.{statement}
 use Rattle.follow.proofs.announces.Tie as tie
@@ -39,23 +40,47 @@ add-if1 : tie.Need-add-if1
 add-if1 c = search needs
 
 returns : tie.Need-returns
-returns c = λ e. absurd (false≢true e)
+returns c =
+    let e = c .before in
+    let d = e .before in
+    let b = d .before in (
+      (
+        λ z. absurd (false≢true z),
+        λ k. absurd (c .if1 .taken (omega (
+          arith,
+          b .bit3 .ensures ∙ k .no-loss,
+          d .bit4 .ensures ∙ k .no-pluck,
+          e .bit5 .ensures ∙ k .announced,
+        ))),
+      ),
+      λ z. absurd (false≢true z),
+    )
 
 returns-2 : tie.Need-returns-2
-returns-2 c z v =
+returns-2 c =
     let e = c .before in
     let d = e .before in
     let b = d .before in
     let a = b .before in
     let f = a .before in
     let r = f .before .before .args .r .now in
-    let some = eqb-false (f .bit .result + a .bit2 .result) 0 (not-true _ z) in
+    let change : f .bit .result + a .bit2 .result ≡ stands r 1 + stands r 2
+    = ap₂ (λ (x y : ℕ). x + y) (f .bit .ensures) (a .bit2 .ensures) in
     let no = none-of (b .bit3 .result) (d .bit4 .result) (e .bit5 .result) (c .if1 .left) in
-    sym (change-alone r v
-    (sym (b .bit3 .ensures) ∙ no .0)
-    (λ n. some (ap₂ (λ (x y : ℕ). x + y) (f .bit .ensures) (a .bit2 .ensures) ∙ n))
-    (sym (d .bit4 .ensures) ∙ no .1))
-    ∙ ap (λ (x : Call). x ∷ []) (sym (announced r v (sym (e .bit5 .ensures) ∙ no .2)))
+    let no-loss = sym (b .bit3 .ensures) ∙ no .0 in
+    let no-pluck = sym (d .bit4 .ensures) ∙ no .1 in
+    let waits = sym (e .bit5 .ensures) ∙ no .2 in (
+      (
+        λ z.
+            let some = eqb-false (f .bit .result + a .bit2 .result) 0 (not-true _ z) in
+            record { changes = λ n. some (change ∙ n); no-loss = no-loss; no-pluck = no-pluck; announced = waits },
+        λ k. ap not (ne-eqb (f .bit .result + a .bit2 .result) 0 (λ n. k .changes (sym change ∙ n))),
+      ),
+      λ z v.
+          let some = eqb-false (f .bit .result + a .bit2 .result) 0 (not-true _ z) in
+          sym (change-alone r v no-loss (λ n. some (change ∙ n)) no-pluck)
+          ∙ ap (λ (x : Call). x ∷ []) (sym (announced r v waits)),
+    )
 
 pub announces-spec : {M : Type 1} → statement M
 announces-spec =

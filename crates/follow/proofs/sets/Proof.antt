@@ -1,11 +1,13 @@
--- `follow::sets` meets its contract: where no bit stands, there is no call.
--- Assumes nothing.
-use mathlib.Core.Path.{sym, ap₂, _∙_}
+-- `follow::sets` meets its contract: where no bit stands, there is no call, and nowhere else.
+use mathlib.Core.Path.{_≡_, sym, ap, ap₂, _∙_}
+use mathlib.Core.Bool.{not}
 use Prim.Native.Nat.{ℕ, _+_}
 use native.Mathlib.Nat.{add-assoc}
 use borrow.Author.Needs.{needs}
-use borrow.Author.Tests.{eqb-true, not-false}
-use Rattle.follow.proofs.Following.{none-of, no-calls}
+use native.Mathlib.Omega.{arith}
+use borrow.Author.Tests.{eqb-true, eq-eqb, not-false}
+use Rattle.follow.specs.Follow.{stands}
+use Rattle.follow.proofs.Following.{none-of, no-calls, some-call}
 use Rattle.follow.proofs.sets.Statement.{statement}
 use Rattle.follow.proofs.sets.Tie as tie
 
@@ -34,19 +36,25 @@ add-result : tie.Need-add-result
 add-result c = search needs
 
 returns : tie.Need-returns
-returns c z v =
+returns c v =
     let d = c .before in
     let e = d .before in
     let f = e .before in
     let r = f .before .before .args .r .now in
-    let n = eqb-true (f .bit .result + e .bit2 .result + (d .bit3 .result + c .bit4 .result)) 0
-    (not-false _ z) in
-    let no = none-of (f .bit .result + e .bit2 .result) (d .bit3 .result) (c .bit4 .result)
-    (add-assoc (f .bit .result + e .bit2 .result) (d .bit3 .result) (c .bit4 .result) ∙ n) in
-    no-calls r v
-    (sym (d .bit3 .ensures) ∙ no .1)
-    (ap₂ (λ (x y : ℕ). x + y) (sym (f .bit .ensures)) (sym (e .bit2 .ensures)) ∙ no .0)
-    (sym (c .bit4 .ensures) ∙ no .2)
+    let change : f .bit .result + e .bit2 .result ≡ stands r 1 + stands r 2
+    = ap₂ (λ (x y : ℕ). x + y) (f .bit .ensures) (e .bit2 .ensures) in
+    let all = f .bit .result + e .bit2 .result + (d .bit3 .result + c .bit4 .result) in (
+      λ z.
+          let n = eqb-true all 0 (not-false _ z) in
+          let no = none-of (f .bit .result + e .bit2 .result) (d .bit3 .result) (c .bit4 .result)
+          (add-assoc (f .bit .result + e .bit2 .result) (d .bit3 .result) (c .bit4 .result) ∙ n) in
+          no-calls r v (sym (d .bit3 .ensures) ∙ no .1) (sym change ∙ no .0) (sym (c .bit4 .ensures) ∙ no .2),
+      λ z.
+          let k = some-call r v z in
+          let n : all ≡ 0
+          = omega (arith, d .bit3 .ensures ∙ k .0, change ∙ k .1, c .bit4 .ensures ∙ k .2) in
+          ap not (eq-eqb all 0 n),
+    )
 
 pub sets-spec : {M : Type 1} → statement M
 sets-spec =

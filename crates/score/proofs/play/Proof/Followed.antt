@@ -114,7 +114,7 @@ module _ (c : tie.After-started Inv-loop μ-loop) where
   announced {a} o =
       acts told
       (subst (λ (cs : List Call). Does (g told) (k told) cs a (k told))
-      (sym (c .before .before .before .announces .ensures (c .before .before .if3 .taken) (stateOf (g told) (k told))))
+      (sym (c .before .before .before .announces .ensures .1 (c .before .before .if3 .taken) (stateOf (g told) (k told))))
       (does-one (g told) (k told) o))
 
   pub start : On (g told) (k told) (announce (changeTo (at told .before .before .read-record .last .1 .0)
@@ -157,5 +157,5 @@ module _ (c : tie.Joined3 Inv-loop μ-loop) where
         };
         act = j .6;
       })) (j .8 .left) (j .10))
-      (λ j. does-as (acts over (does-still (j .2 .ensures (j .3 .left) _) (waited over .1))) refl (j .4)))
+      (λ j. does-as (acts over (does-still (j .2 .ensures (stateOf (g over) (k over)) .0 (j .3 .left)) (waited over .1))) refl (j .4)))
       (c .if3 .came)
