@@ -16,13 +16,13 @@ mod tests {
         assert_eq!(message(Refusal::NothingAsked), "no asked change waits (refusal 21)");
     }
 
-    /// README.md has a row for each number of document 01's list.
+    /// docs/REFUSALS.md has a row for each number of document 01's list.
     #[test]
-    fn words_are_the_readmes() {
-        let readme = include_str!("../../README.md");
+    fn words_stand_in_the_table() {
+        let table = include_str!("../../docs/REFUSALS.md");
         for refusal in Refusal::ALL.iter().filter(|&&refusal| refusal != Refusal::ListForm) {
             let row = format!("| {} | {refusal} |", refusal.number());
-            assert!(readme.contains(&row), "README.md: {row}");
+            assert!(table.contains(&row), "docs/REFUSALS.md: {row}");
         }
     }
 }
