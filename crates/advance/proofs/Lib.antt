@@ -1,2 +1,5 @@
-mod Turns
-pub mod Kept
+mod First
+mod Refusals
+pub mod Returns
+pub mod Numbers
+pub mod Keeps

@@ -1,1 +1,3 @@
-pub mod Advance
+pub mod Least
+pub mod Returns
+pub mod Keeps

@@ -1,16 +1,18 @@
 -- A filter's states over many samples: within 2M, and under the same inputs two of them come together.
 -- Assumes nothing.
-use mathlib.Core.Path.{_≡_, refl, ap, subst, _∙_}
+use mathlib.Core.Path.{_≡_, refl, sym, ap, subst, _∙_}
 use mathlib.Core.List.{List, [], _∷_, _++_}
-use Prim.Native.Nat.{ℕ, zero, suc, _+_, _*_, _-_, _^_, _≤_}
+use Prim.Native.Nat.{ℕ, zero, suc, _+_, _*_, _-_, _/_, _^_, _≤_}
 use native.Mathlib.Omega.{arith}
-use native.Mathlib.Nat.{le-trans, mul-le-mul-right, sub-zero}
-use lib.IntN.{ℤ, natAbs, _-ℤ_}
-use lib.ListN.{length, take, drop, take-append-drop, length-take, length-drop}
+use native.Mathlib.Nat.{le-trans, mul-le-mul-right, sub-zero, div-add-mod'}
+use lib.IntN.{ℤ, pos, natAbs, _-ℤ_}
+use lib.ListN.{length, take, drop, take-append-drop, length-take, length-drop, length-replicate}
 use Rattle.integer.specs.Rounding.{M}
+use Rattle.integer.proofs.View.{absv, near, -v}
 use Rattle.thiran.specs.Coefficients.{norm}
-use Rattle.allpass.specs.Allpass.{shift, inner, next, run}
-use Rattle.allpass.specs.Bounds.{Within, none, more, Close, half, share, shares, Contracts, Bounded}
+use Rattle.allpass.specs.Allpass.{rest, shift, inner, next, out, run}
+use Rattle.allpass.specs.Bounds.{Within, none, more, Close, half}
+use Rattle.allpass.specs.Bounds.{share, Upward, shares, distance, ownFigure, Contracts, Bounded}
 use Rattle.allpass.proofs.Bounds.{length-next, inner-within, next-within}
 use Rattle.allpass.proofs.Bounds.{share-less, inner-close, next-close, out-close}
 
@@ -80,9 +82,9 @@ module _ (A : List ℤ) (n : norm A ≤ 65536) where
       run-mixed fs k (omega arith) (shift-new (inner A v f) (inner A u f) w h)
 
   -- as many as the order leave the share of it
-  pub run-turn : (fs : List ℤ) {v u : List ℤ} {D : ℕ} → length v ≤ length fs → Close D v u
+  pub run-share : (fs : List ℤ) {v u : List ℤ} {D : ℕ} → length v ≤ length fs → Close D v u
       → Close (share (norm A) D) (run A v fs) (run A u fs)
-  run-turn fs {v} l h =
+  run-share fs {v} l h =
       all-new (omega (arith, length-run A v fs)) (run-mixed fs (length fs) (omega arith) (all-old h))
 
   -- and k times as many, k shares
@@ -94,12 +96,33 @@ module _ (A : List ℤ) (n : norm A ≤ 65536) where
       let p = take i fs in
       let q = drop i fs in
       let before = run-many k p (omega (arith, length-take i fs)) h in
-      let then = run-turn q (omega (arith, length-run A v p, length-drop i fs)) before in
+      let then = run-share q (omega (arith, length-run A v p, length-drop i fs)) before in
       subst (λ (l : List ℤ). Close (shares (norm A) D (suc k)) (run A v l) (run A u l)) (take-append-drop i fs)
       (rw (run-append A v p q, run-append A u p q) then)
 
+-- ---- from rest, and from a state within 2M
+from-rest : {u : List ℤ} (N : ℕ) → N ≡ length u → Within (2 * M) u → Close (2 * M) (rest N) u
+from-rest zero e none = none
+from-rest zero e (more p h) = absurd (omega arith)
+from-rest (suc N) e none = absurd (omega arith)
+from-rest (suc N) e (more {x} p h) =
+    let q : natAbs (pos 0 -ℤ x) ≤ 2 * M = near (pos 0 -ℤ x) (omega (arith, -v (pos 0) x, absv x)) in
+    more q (from-rest N (omega arith) h)
+
+run-near : (A : List ℤ) → norm A ≤ 65536 → (N : ℕ) (u fs : List ℤ) (f : ℤ) → length u ≡ N → Within (2 * M) u
+    → natAbs (out A (run A (rest N) fs) f -ℤ out A (run A u fs) f) ≤ ownFigure (norm A) (length fs / N)
+unfolding ownFigure distance
+run-near A n N u fs f e h =
+    let k = length fs / N in
+    let room : length (rest N) * k ≤ length fs
+    = rw (length-replicate N (pos 0)) (omega (arith, div-add-mod' (length fs) N)) in
+    out-close A f (run-many A n k fs room (from-rest N (sym e) h)) n
+
 pub contracts : (A : List ℤ) → norm A ≤ 65536 → Contracts A
-contracts A n = record { turns = run-many A n; output = λ f h. out-close A f h n }
+contracts A n = record { state = run-many A n; output = λ f h. out-close A f h n; figure = run-near A n }
+
+pub upward : (n D : ℕ) → Upward n D
+upward n D = record { above = omega arith; least = λ x h. omega arith }
 
 -- ---- the share of at most 32,768 is at most half, upward
 pub share-half : {n : ℕ} (D : ℕ) → n ≤ 32768 → share n D ≤ half D
@@ -121,7 +144,7 @@ bounded A n =
     let c = contracts A (omega arith) in
     record {
       within = λ f h k. inner-within A n f h k;
-      halved = λ fs {v} {u} {D} l h. wider (share-half D n) (run-turn A (omega arith) fs l h);
+      halved = λ fs {v} {u} {D} l h. wider (share-half D n) (run-share A (omega arith) fs l h);
       output = λ f {D} h. omega (arith, c .output f h, share-half D n);
-      converged = λ k fs v u l h. wider (shares-pow (2 ^ 24) 24 k n (omega arith)) (c .turns k fs l h);
+      converged = λ k fs v u l h. wider (shares-pow (2 ^ 24) 24 k n (omega arith)) (c .state k fs l h);
     }

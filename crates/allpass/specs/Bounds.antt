@@ -8,7 +8,7 @@ use lib.ListN.{length}
 use Rattle.integer.specs.Rounding.{clip, M}
 use Rattle.integer.specs.Cut.{R}
 use Rattle.thiran.specs.Coefficients.{norm}
-use Rattle.allpass.specs.Allpass.{inner, next, out, run}
+use Rattle.allpass.specs.Allpass.{rest, inner, next, out, run}
 
 -- each number of v is of magnitude at most B
 pub data Within (B : ℕ) : List ℤ → Type 0 where
@@ -24,23 +24,41 @@ pub data Close (D : ℕ) : List ℤ → List ℤ → Type 0 where
 abbrev pub half : ℕ → ℕ
 half D = (D + 1) / 2
 
--- n·D/65,536, upward: the share of D that coefficients leave whose magnitudes add up to n
+-- n·D/65,536, upward: what coefficients whose magnitudes add up to n leave of D,
 abbrev pub share : ℕ → ℕ → ℕ
 share n D = (n * D + 65535) / 65536
 
--- and what k turns of it leave
+-- "the least whole number not below" it,
+pub record Upward (n D : ℕ) : Type 0 where
+  pub above : n * D ≤ 65536 * share n D
+  pub least : (x : ℕ) → n * D ≤ 65536 * x → share n D ≤ x
+
+-- and k times over
 abbrev pub shares : ℕ → ℕ → ℕ → ℕ
 shares n D zero = D
 shares n D (suc k) = share n (shares n D k)
 
--- of coefficients A whose magnitudes add up to at most 65,536: states D apart are the share of D apart after as
--- many samples as the filter has an order, k shares after k times as many, and their outputs D and the share
+-- b(0) = 2M, and b(k + 1) is the share of b(k): how far a state at rest and one within 2M can be apart after k times
+-- as many samples as the order
+unfoldable pub distance : ℕ → ℕ → ℕ
+distance n k = shares n (2 * M) k
+
+-- the output adds one number of the state and one R: b(k) + b(k + 1), the own figure of coefficients that add up to n
+unfoldable pub ownFigure : ℕ → ℕ → ℕ
+ownFigure n k = distance n k + distance n (suc k)
+
+-- of coefficients A whose magnitudes add up to at most 65,536
 pub record Contracts (A : List ℤ) : Type 0 where
-  pub turns :
+  -- states D apart are the share of D apart after as many samples as the order, and k shares after k times as many
+  pub state :
       (k : ℕ) (fs : List ℤ) {v u : List ℤ} {D : ℕ} → length v * k ≤ length fs → Close D v u
       → Close (shares (norm A) D k) (run A v fs) (run A u fs)
+  -- and their outputs are at most D and the share of D apart
   pub output : {v u : List ℤ} (f : ℤ) {D : ℕ} → Close D v u
       → natAbs (out A v f -ℤ out A u f) ≤ D + share (norm A) D
+  -- so the outputs from rest and from a state u within 2M are the own figure apart, over the same inputs
+  pub figure : (N : ℕ) (u fs : List ℤ) (f : ℤ) → length u ≡ N → Within (2 * M) u
+      → natAbs (out A (run A (rest N) fs) f -ℤ out A (run A u fs) f) ≤ ownFigure (norm A) (length fs / N)
 
 -- of coefficients A whose magnitudes add up to at most 32,768
 pub record Bounded (A : List ℤ) : Type 0 where

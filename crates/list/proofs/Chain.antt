@@ -11,10 +11,10 @@ use borrow.Author.Tests.{eqb-false}
 use Rattle.rule.specs.Calls.{Call, Opening, block, instant, number}
 use Rattle.rule.specs.State.{State, fresh, call, put, from, puts, numbers}
 use Rattle.rule.specs.Click.{ClickFigure}
-use Rattle.rule.specs.Sharp.{SharpFigure}
+use Rattle.rule.specs.OwnFigure.{OwnClickFigure}
 use Rattle.rule.proofs.Refusals.{refuses}
 use Rattle.rule.proofs.Puts.{put-none}
-use Rattle.rule.proofs.Click.{click, sharply}
+use Rattle.rule.proofs.Click.{click, own-click}
 use Rattle.voice.specs.declared.Head.{Head}
 use Rattle.voice.specs.declared.Answer.{Answer}
 use Rattle.voice.specs.Struct.{voiceOf, stateOf}
@@ -78,5 +78,5 @@ chained o r p {cs = cs} c =
       state = f .state ∙ ap (λ (v : State). from v cs) e;
       valid = f .valid;
       click = subst (λ (y : List ℤ). ClickFigure o cs y) (sym i) (click o cs);
-      sharp = subst (λ (y : List ℤ). SharpFigure o cs y) (sym i) (sharply o cs);
+      own-click = subst (λ (y : List ℤ). OwnClickFigure o cs y) (sym i) (own-click o cs);
     }

@@ -11,10 +11,10 @@ use Rattle.rule.specs.Calls.{Opening}
 use Rattle.rule.specs.History.{steps, after}
 use Rattle.rule.specs.State.{fresh, puts}
 use Rattle.rule.proofs.Agreement.{agrees}
-use Rattle.rule.proofs.Click.{click, sharply}
+use Rattle.rule.proofs.Click.{click, own-click}
 use Rattle.list.specs.Words.{calls, formed}
 use Rattle.list.specs.Performed.{outputAfter}
-use Rattle.list.specs.Clicks.{Clicks, Sharps}
+use Rattle.list.specs.Clicks.{Clicks, OwnClicks}
 
 module _ (o : Opening) (ws : List ℕ) (xs : List ℤ) (places : ℕ) (before : List ℤ)
     (e : formed ws (length xs) (length before) places ≡ true) where
@@ -33,9 +33,9 @@ clicks o ws xs places before f pre post c t a e m split change none due short =
     let i = sample o ws xs places before f m short in
     record { near = rw i (g .near); same = λ z. i ∙ g .same z }
 
-pub sharps : (o : Opening) (ws : List ℕ) (xs : List ℤ) (places : ℕ) (before : List ℤ)
-    → Sharps o ws xs places before
-sharps o ws xs places before f pre post c t a e m split change none due short =
-    let g = sharply o (calls ws xs) pre post c t a e m split change none due short in
+pub own-clicks : (o : Opening) (ws : List ℕ) (xs : List ℤ) (places : ℕ) (before : List ℤ)
+    → OwnClicks o ws xs places before
+own-clicks o ws xs places before f pre post c t a e m split change none due short =
+    let g = own-click o (calls ws xs) pre post c t a e m split change none due short in
     let i = sample o ws xs places before f m short in
     record { near = rw i (g .near); same = λ z. i ∙ g .same z }

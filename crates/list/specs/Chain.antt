@@ -11,7 +11,7 @@ use Rattle.rule.specs.Voice.{Tuning}
 use Rattle.rule.specs.Calls.{Call, Opening, block, instant, inputs}
 use Rattle.rule.specs.State.{fresh, from, puts, numbers}
 use Rattle.rule.specs.Click.{ClickFigure}
-use Rattle.rule.specs.Sharp.{SharpFigure}
+use Rattle.rule.specs.OwnFigure.{OwnClickFigure}
 use Rattle.voice.specs.declared.Head.{Head}
 use Rattle.voice.specs.declared.Answer.{Answer}
 use Rattle.voice.specs.Struct.{stateOf}
@@ -49,4 +49,4 @@ pub record Chained (o : Opening) (cs : List Call) (ns : List ℕ) (ys : List ℤ
     -- what the next call requires
     pub valid : Valid g k
     pub click : ClickFigure o cs ys
-    pub sharp : SharpFigure o cs ys
+    pub own-click : OwnClickFigure o cs ys

@@ -8,7 +8,7 @@ use lib.IntN.{ℤ}
 use lib.ListN.{length}
 use Rattle.rule.specs.Calls.{Opening}
 use Rattle.rule.specs.Click.{ClickFigure}
-use Rattle.rule.specs.Sharp.{SharpFigure}
+use Rattle.rule.specs.OwnFigure.{OwnClickFigure}
 use Rattle.list.specs.Words.{calls, formed}
 use Rattle.list.specs.Performed.{outputAfter}
 
@@ -18,8 +18,8 @@ Clicks o ws xs places before =
     formed ws (length xs) (length before) places ≡ true
     → ClickFigure o (calls ws xs) (outputAfter o ws xs places before)
 
--- and the sharper figure, of the tuning's own coefficients
-abbrev pub Sharps : Opening → List ℕ → List ℤ → ℕ → List ℤ → Type 0
-Sharps o ws xs places before =
+-- and the figure with the tuning's own coefficients
+abbrev pub OwnClicks : Opening → List ℕ → List ℤ → ℕ → List ℤ → Type 0
+OwnClicks o ws xs places before =
     formed ws (length xs) (length before) places ≡ true
-    → SharpFigure o (calls ws xs) (outputAfter o ws xs places before)
+    → OwnClickFigure o (calls ws xs) (outputAfter o ws xs places before)

@@ -1,5 +1,4 @@
--- Demand 3 holds for every opening and every list of calls, by the sharper figure of the change's own tuning.
--- Assumes nothing.
+-- The own figure of the filter that comes in holds for every opening and every list of calls, and with it demand 3.
 use mathlib.Core.List.{List}
 use Prim.Native.Nat.{_+_, _-_, _/_, _≤_}
 use native.Mathlib.Omega.{arith}
@@ -10,18 +9,18 @@ use Rattle.rule.specs.Calls.{Call, Opening}
 use Rattle.rule.specs.History.{call, after}
 use Rattle.rule.specs.State.{fresh, puts}
 use Rattle.rule.specs.Click.{Click}
-use Rattle.rule.specs.Sharp.{Sharpened, Sharp}
+use Rattle.rule.specs.OwnFigure.{OwnFigure, OwnClick}
 use Rattle.rule.proofs.Filters.{norm-fit}
-use Rattle.rule.proofs.Sharp.{sharper}
+use Rattle.rule.proofs.OwnFigure.{own-laws}
 use Rattle.rule.proofs.Walk.{after-split}
 use Rattle.rule.proofs.Sound.{call-sound, after-sound}
 use Rattle.rule.proofs.Place.{Place, place-from, passed, begins}
 use Rattle.rule.proofs.Agreement.{agrees}
 
-pub sharply : (o : Opening) (cs : List Call) → Sharp o cs
-sharply o cs pre post c t a e m split k late since short = go (omega arith)
+pub own-click : (o : Opening) (cs : List Call) → OwnClick o cs
+own-click o cs pre post c t a e m split k late since short = go (omega arith)
   where
-    go : e ≤ m → Sharpened (puts (fresh o) cs) (after o cs .s) t a e m
+    go : e ≤ m → OwnFigure (norm (A t)) (puts (fresh o) cs) (after o cs .s) t a e m
     go due =
         let h = after o pre in
         let g = after-sound o pre in
@@ -33,9 +32,9 @@ sharply o cs pre post c t a e m split k late since short = go (omega arith)
 
 pub click : (o : Opening) (cs : List Call) → Click o cs
 click o cs pre post c t a e m split k late since short =
-    let r = sharply o cs pre post c t a e m split k late since short in
+    let r = own-click o cs pre post c t a e m split k late since short in
     let f = begins (after o pre) (after-sound o pre) k since .fit in
     record {
-      near = le-trans (r .near) (sharper .under (norm (A t)) ((a + (m - e)) / t .N) (norm-fit f));
+      near = le-trans (r .near) (own-laws .under (norm (A t)) ((a + (m - e)) / t .N) (norm-fit f));
       same = r .same;
     }

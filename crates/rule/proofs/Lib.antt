@@ -9,7 +9,7 @@ pub mod Opened
 pub mod States
 pub mod Puts
 pub mod New
-pub mod Sharp
+pub mod OwnFigure
 pub mod Nearness
 pub mod Walk
 pub mod Counts
@@ -24,7 +24,7 @@ pub mod Click
 pub mod Ruling
 pub mod Cover
 pub mod Literals
-pub mod Sharply
+pub mod OwnLiterals
 pub mod Waits
 pub mod Pedal
 mod Twins

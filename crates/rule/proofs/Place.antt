@@ -9,17 +9,18 @@ use native.Mathlib.Decide.{decLt}
 use lib.IntN.{ℤ, pos}
 use lib.ListN.{getD, List·getD-append}
 use lib.Seq.{getD-at}
+use Rattle.thiran.specs.Coefficients.{norm}
 use Rattle.allpass.specs.Allpass.{out}
 use Rattle.rule.specs.Voice.{Tuning, announced, Waiting, A, output, written}
 use Rattle.rule.specs.Calls.{Call, announce, instant, commit, number}
 use Rattle.rule.specs.History.{History, read, steps, ago, step, told, call, from, new}
 use Rattle.rule.specs.Click.{Change, announcing, instantly, committing, NoneBy}
-use Rattle.rule.specs.Sharp.{Sharpened}
+use Rattle.rule.specs.OwnFigure.{OwnFigure}
 use Rattle.rule.specs.Valid.{Tunable}
 use Rattle.rule.proofs.Refusals.{refuses}
 use Rattle.rule.proofs.Read.{read-append}
 use Rattle.rule.proofs.New.{new-append}
-use Rattle.rule.proofs.Nearness.{sharp-near, sharp-same}
+use Rattle.rule.proofs.Nearness.{figure-near, figure-same}
 use Rattle.rule.proofs.Accepted.{accepted-fit}
 use Rattle.rule.proofs.Walk.{call-keeps, call-accepted}
 use Rattle.rule.proofs.Steps.{step-steps}
@@ -28,10 +29,14 @@ use Rattle.rule.proofs.Course.{Course, coming, ruling, course-step, Lat
 use Rattle.rule.proofs.Course.{begins-instant, begins-announced, begins-committed}
 
 module _ (t : Tuning) (f : Tunable t) (a e m : ℕ) (due : e ≤ m) where
+  -- what is claimed of the sample at step i
+  abbrev Own : List ℤ → List ℤ → ℕ → Type 0
+  Own y s i = OwnFigure (norm (A t)) y s t a e i
+
   -- step m is ahead, or lies behind, and then what is claimed of it holds
   pub data Place (h : History) : Type 0 where
     ahead : steps h ≤ m → Course t f a e m due h → Place h
-    behind : m < steps h → Sharpened (h .y) (h .s) t a e m → Place h
+    behind : m < steps h → Own (h .y) (h .s) m → Place h
 
   -- ---- more samples and outputs
   module _ (h : History) (x : ℤ) (g : Sound h) where
@@ -58,20 +63,20 @@ module _ (t : Tuning) (f : Tunable t) (a e m : ℕ) (due : e ≤ m) where
 
     -- step m is the one that the step takes
     arrives : h .voice .tuning ≡ t → e ≤ steps h → Ran h t (a + (steps h - e)) (h .voice .state)
-        → Sharpened (step h x .y) s′ t a e (steps h)
+        → Own (step h x .y) s′ (steps h)
     arrives q b r =
         let n = steps h in
         let k = a + (n - e) in
         let v = h .voice .state in
         record {
-          near = rw (output-now q, new-on n (omega arith)) (sharp-near t (h .s) n k v r f (g .small));
+          near = rw (output-now q, new-on n (omega arith)) (figure-near t (h .s) n k v r f (g .small));
           same =
               λ z. rw (output-now q, new-on n (omega arith))
-              (sharp-same t (h .s) n k v r (λ i l. sym (read-on i (omega arith)) ∙ z i (omega arith)));
+              (figure-same t (h .s) n k v r (λ i l. sym (read-on i (omega arith)) ∙ z i (omega arith)));
         }
 
     -- or lies behind
-    stays : m < steps h → Sharpened (h .y) (h .s) t a e m → Sharpened (step h x .y) s′ t a e m
+    stays : m < steps h → Own (h .y) (h .s) m → Own (step h x .y) s′ m
     stays l p = record {
       near = rw (output-on m l, new-on m (omega arith)) (p .near);
       same =
@@ -100,7 +105,7 @@ module _ (t : Tuning) (f : Tunable t) (a e m : ℕ) (due : e ≤ m) where
       go n (no k) (ahead l (ruling q b r z)) =
           let i : steps h ≡ m = omega arith in
           behind (omega arith)
-          (subst (λ (j : ℕ). Sharpened (step h x .y) (step h x .s) t a e j) i (arrives h x g q b r))
+          (subst (λ (j : ℕ). Own (step h x .y) (step h x .s) j) i (arrives h x g q b r))
 
   going-step : (h : History) (x : ℤ) → Going h → Going (step h x)
   going-step h x p = (step-sound h x (p .0), place-step h x (p .0) (p .1))
@@ -118,7 +123,7 @@ module _ (t : Tuning) (f : Tunable t) (a e m : ℕ) (due : e ≤ m) where
       (g, p) in
       place-from cs (call h c) (next .0) (l .1) (next .1)
 
-  pub passed : (h : History) → m < steps h → Place h → Sharpened (h .y) (h .s) t a e m
+  pub passed : (h : History) → m < steps h → Place h → Own (h .y) (h .s) m
   passed h l (ahead k c) = absurd (omega arith)
   passed h l (behind k p) = p
 

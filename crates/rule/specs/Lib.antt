@@ -8,7 +8,8 @@ pub mod Refusals
 pub mod Keeps
 pub mod Plucks
 pub mod Click
-pub mod Sharp
+pub mod OwnFigure
+pub mod OwnLiterals
 pub mod Demands
 pub mod Asked
 pub mod Literals

@@ -7,7 +7,7 @@ use lib.IntN.{ℤ}
 use lib.ListN.{length, drop}
 use lib.Seq.{take-at, drop-at}
 use Rattle.rule.specs.State.{fresh, puts}
-use Rattle.rule.proofs.Click.{click}
+use Rattle.rule.proofs.Click.{click, own-click}
 use Rattle.score.specs.declared.Played.{Played}
 use Rattle.score.specs.Run.{opening, run}
 use Rattle.score.specs.Played.{Runs}
@@ -26,4 +26,5 @@ listed s output r after p =
           rw (p .output-is) (drop-at ys (drop (length ys) output) (r .written) (sym (p .count)))
           ∙ ap (λ (n : ℕ). drop n output) (sym (p .count));
       click = click (opening s) cs;
+      own-click = own-click (opening s) cs;
     }

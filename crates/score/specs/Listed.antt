@@ -8,6 +8,7 @@ use lib.ListN.{length, take, drop}
 use Rattle.rule.specs.Calls.{Call}
 use Rattle.rule.specs.State.{fresh, puts}
 use Rattle.rule.specs.Click.{Click}
+use Rattle.rule.specs.OwnFigure.{OwnClick}
 use Rattle.score.specs.declared.Played.{Played}
 use Rattle.score.specs.Run.{opening, run}
 
@@ -20,3 +21,5 @@ pub record Listed (s : List ℕ) (output : List ℤ) (r : Played) (after : List 
   pub samples : take (r .written) after ≡ puts (fresh (opening s)) calls
   pub untouched : drop (r .written) after ≡ drop (r .written) output
   pub click : Click (opening s) calls
+  -- with the coefficients of each tuning that comes in
+  pub own-click : OwnClick (opening s) calls

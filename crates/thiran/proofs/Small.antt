@@ -10,10 +10,12 @@ use native.Mathlib.Decide.{decLt}
 use lib.Dec.{T, leb, leb→le, lit≤, lit<}
 use lib.IntN.{pos, natAbs, _-ℤ_, _*ℤ_}
 use mir.Facts.{and-yes}
+use Rattle.integer.specs.Rounding.{nearest, floor}
 use Rattle.integer.proofs.View.{absv, -v, near}
 use Rattle.integer.proofs.Ring.{abs-*}
 use Rattle.integer.proofs.Rounding.{nearest-abs}
 use Rattle.refusal.specs.Orders.{orders, lowest, Takes}
+use Rattle.thiran.specs.Formula.{factor, a}
 use Rattle.thiran.specs.Coefficients.{coefficient, coefficientsFrom, coefficients, norm}
 use Rattle.thiran.specs.Steps.{part}
 use Rattle.thiran.proofs.Cancelled.{turned}
@@ -113,13 +115,26 @@ norm-largest (suc n) d t =
     norm-from N (largest N) (lowest N) 1024 (every-at orders fit-at all-fit n (t .most)) (omega arith) d (t .low)
     (omega (arith, t .high))
 
--- in order 3, of 3,946 of its 4,096 delays
-light-fit : T (every 987 (fits 3 29127 10391))
+-- ---- in order 3, of 3,949 of its 4,096 delays: the first three one by one, since a bound of four is above it there
+most-fit : T (every 987 (fits 3 29127 10391))
 unfolding fits
-light-fit = tt
+most-fit = tt
 
-pub norm-light : (d : ℕ) → 10391 ≤ d → d ≤ 14336 → norm (coefficients 3 d) ≤ 29127
-norm-light d l h = norm-from 3 29127 10391 987 light-fit (lit≤ tt) d l (omega arith)
+first-fit : (i : ℕ) → i < 3 → norm (coefficients 3 (10388 + i)) ≤ 29127
+unfolding coefficients coefficient nearest floor a factor
+first-fit zero h = lit≤ tt
+first-fit (suc zero) h = lit≤ tt
+first-fit (suc (suc zero)) h = lit≤ tt
+first-fit (suc (suc (suc i))) h = absurd (omega arith)
+
+pub norm-most : (d : ℕ) → 10388 ≤ d → d ≤ 14336 → norm (coefficients 3 d) ≤ 29127
+norm-most d l h = go (decLt d 10391)
+  where
+    go : Dec (d < 10391) → norm (coefficients 3 d) ≤ 29127
+    go (yes i) =
+        let e : 10388 + (d - 10388) ≡ d = omega arith in
+        subst (λ (x : ℕ). norm (coefficients 3 x) ≤ 29127) e (first-fit (d - 10388) (omega arith))
+    go (no i) = norm-from 3 29127 10391 987 most-fit (lit≤ tt) d (omega arith) (omega arith)
 
 largest-below : (N : ℕ) → largest N < 32768
 largest-below zero = lit< tt

@@ -1,4 +1,4 @@
--- `advance::total` meets its contract: three magnitudes of 32 bits fit. Assumes nothing.
+-- `advance::norm` meets its contract: three magnitudes of 32 bits fit.
 use mathlib.Core.Path.{_≡_}
 use Prim.Native.Nat.{_+_}
 use native.Mathlib.Omega.{arith}
@@ -6,8 +6,8 @@ use borrow.Author.Needs.{needs}
 use lib.IntN.{natAbs}
 use mir.Facts.{toZ-ofZ}
 use Rattle.integer.proofs.View.{fits-abs}
-use Rattle.advance.proofs.total.Statement.{statement}
-use Rattle.advance.proofs.total.Tie as tie
+use Rattle.advance.proofs.norm.Statement.{statement}
+use Rattle.advance.proofs.norm.Tie as tie
 
 magnitude-requires : tie.Need-magnitude-requires
 magnitude-requires c κs = search needs
@@ -43,7 +43,7 @@ add-result-2 c =
 returns : tie.Need-returns
 returns c = omega (arith, two (c .before), three c)
 
-pub total-spec : {M : Type 1} → statement M
-total-spec =
+pub norm-spec : {M : Type 1} → statement M
+norm-spec =
     tie.close
     (tie.spec magnitude-requires magnitude-requires-2 add-result magnitude-requires-3 add-result-2 returns)
