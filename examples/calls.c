@@ -39,6 +39,18 @@ static void effective_length(uint32_t order, uint32_t delay, uint32_t threshold)
     }
 }
 
+static void least_advance(uint32_t order, uint32_t delay, uint32_t wanted)
+{
+    uint32_t advance = 7, refusal = jivaszte_least_advance(order, delay, wanted, &advance);
+    printf("least advance %u %u %u: ", order, delay, wanted);
+    if (refusal == JIVASZTE_DONE) {
+        printf("%u\n", advance);
+    } else {
+        printf("refused by %u\n", refusal);
+        zero(advance);
+    }
+}
+
 static void note(uint32_t order, uint32_t rate, uint32_t number)
 {
     uint32_t length = 7, delay = 7, refusal = jivaszte_note(order, rate, number, &length, &delay);
@@ -173,6 +185,11 @@ int main(void)
     effective_length(1, 6144, 1000000);
     effective_length(0, 4096, 0);
     effective_length(2, 6144, 0);
+    least_advance(1, 2979, 2);
+    least_advance(3, 11171, 2);
+    least_advance(4, 11171, 2);
+    least_advance(1, 2048, 2);
+    least_advance(3, 10241, 2);
     note(1, 44100, 69);
     note(2, 44100, 69);
     note(3, 44100, 69);

@@ -16,6 +16,11 @@ fn coefficients(order: u32, delay: u32) {
     println!("coefficients {order} {delay}: {}", said(a));
 }
 
+fn least_advance(order: u32, delay: u32, wanted: u32) {
+    let advance = jivaszte::least_advance(order, delay, wanted).map(|advance| advance.to_string());
+    println!("least advance {order} {delay} {wanted}: {}", said(advance));
+}
+
 fn effective_length(order: u32, delay: u32, threshold: u32) {
     let length = jivaszte::effective_length(order, delay, threshold).map(|length| length.to_string());
     println!("effective length {order} {delay} {threshold}: {}", said(length));
@@ -128,6 +133,11 @@ fn main() {
     effective_length(1, 6144, 1_000_000);
     effective_length(0, 4096, 0);
     effective_length(2, 6144, 0);
+    least_advance(1, 2979, 2);
+    least_advance(3, 11171, 2);
+    least_advance(4, 11171, 2);
+    least_advance(1, 2048, 2);
+    least_advance(3, 10241, 2);
     note(1, 44_100, 69);
     note(2, 44_100, 69);
     note(3, 44_100, 69);

@@ -77,11 +77,16 @@ static inline const char *jivaszte_words(uint32_t number)
         "the asked change has taken fewer samples than the advance",
         "no asked change waits",
     };
+    if (number == 32)
+        return "no advance from 0 to 64 keeps a change within the wanted distance";
     return number < sizeof words / sizeof words[0] ? words[number] : "no number of a refusal";
 }
 
 /* The number by which jivaszte_perform refuses. */
 enum { JIVASZTE_LIST_FORM = 31 };
+
+/* The number by which jivaszte_least_advance refuses, after 1 and 3, where no advance is enough. */
+enum { JIVASZTE_NO_ADVANCE = 32 };
 
 /* What each bit of a record's bit map counts. */
 enum {
@@ -116,6 +121,10 @@ uint32_t jivaszte_coefficients(uint32_t order, uint32_t delay, int32_t *a1, int3
 /* The index, from 0, of the last of the first 64 values of an eliminator's response to 1,000,000 that exceeds the
    threshold in magnitude, plus one; 0 where none does. Refuses by 1, 3. */
 uint32_t jivaszte_effective_length(uint32_t order, uint32_t delay, uint32_t threshold, uint32_t *length);
+
+/* The least advance, 0 to 64, with which every sample after a change to an order and a delay is at most `wanted` units
+   from that of the ideal filter, whatever was played before: docs/CLICK.md, "The own figure". Refuses by 1, 3, 32. */
+uint32_t jivaszte_least_advance(uint32_t order, uint32_t delay, uint32_t wanted, uint32_t *advance);
 
 /* The length and the delay by which a voice sounds a note at a rate in samples a second. Refuses by 1, 11, 12, 13. */
 uint32_t jivaszte_note(uint32_t order, uint32_t rate, uint32_t note, uint32_t *length, uint32_t *delay);

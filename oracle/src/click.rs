@@ -1,5 +1,6 @@
 //! Section "The click figure": demand 3, checked on a list of calls.
 
+use crate::advance::OwnFigures;
 use crate::call::Call;
 use crate::tuning::Tuning;
 use crate::voice::{s_at, Voice};
@@ -96,19 +97,22 @@ impl History {
     }
 
     /// "The new filter has the change's L' and d'", and its order, "is at rest before step 0 and takes
-    /// s(m − L') at every step m from 0. What is compared is y at step m". From e to before step `end`.
+    /// s(m − L') at every step m from 0. What is compared is y at step m". From e to before step `end`; by the
+    /// figure, and by the own figure of the change's tuning.
     fn compare(&self, change: &Change, end: usize, tally: &mut Tally) -> Result<(), String> {
         let equal = self.read_zeros(change);
         let Tuning { order, length, delay } = change.to;
+        let own = OwnFigures::of(order, delay);
         let mut new_filter = change.to.at_rest();
         for m in 0..end {
             let new = new_filter.filter(s_at(&self.s, m as i128 - i128::from(length)));
             if m < change.effect {
                 continue;
             }
+            let j = m - change.effect;
             let allowed = match equal {
                 true => 0,
-                false => figure(order, change.taken, m - change.effect),
+                false => figure(order, change.taken, j).min(own.figure(change.taken, j)),
             };
             let difference = (self.y[m] - new).abs();
             if difference > allowed {

@@ -37,6 +37,7 @@ pub enum Command {
     WavWrite { rate: u32, places: usize, samples: Vec<i32> },
     WavRead { places: usize, bytes: Vec<u8> },
     Gather { start: u32, bytes: Vec<u8> },
+    Least { order: u32, delay: u32, wanted: u32 },
     Help,
 }
 
@@ -159,6 +160,9 @@ fn command(name: &[u8], rest: &[&[u8]]) -> Option<Command> {
             delay,
             threshold,
         }),
+        b"least" => {
+            numbers(rest).map(|[order, delay, wanted]| Command::Least { order, delay, wanted })
+        }
         b"note" => numbers(rest).map(|[order, rate, note]| Command::Note { order, rate, note }),
         b"draw" => numbers(rest).map(|[state]| Command::Draw { state }),
         b"record" => Some(Command::Record { bytes: bytes(rest)? }),

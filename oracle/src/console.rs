@@ -1,5 +1,6 @@
 //! The text console: one answer to each line, on one voice that it keeps.
 
+use crate::advance::least;
 use crate::allpass::effective_length;
 use crate::call::{Call, UNTOUCHED};
 use crate::command::{commands, lines, Command};
@@ -138,6 +139,10 @@ impl Console {
             Command::Length { order, delay, threshold } => {
                 let (answer, length) = effective_length(*order, *delay, *threshold);
                 format!("length {} {length}", number(&answer))
+            }
+            Command::Least { order, delay, wanted } => {
+                let (answer, advance) = least(*order, *delay, *wanted);
+                format!("least {} {advance}", number(&answer))
             }
             Command::Note { order, rate, note: m } => {
                 let (answer, values) = note(*order, *rate, *m);

@@ -27,6 +27,7 @@ fn calls() -> Vec<(&'static str, String)> {
         ("wavwrite", "RATE ROOM X1 X2 .. (ROOM at most FILE, X BLOCK)"),
         ("wavread", "ROOM B1 B2 .. (ROOM at most READ)"),
         ("gather", "START B1 B2 .."),
+        ("least", "N D WANTED"),
         ("help", "nothing"),
     ];
     let limits = [

@@ -3,6 +3,7 @@
 //! It follows the paper literally: the whole history since opening is kept, numbers are exact, and
 //! the filter is written for order N. Every function names the sentence of the paper it carries.
 
+pub mod advance;
 pub mod allpass;
 pub mod call;
 pub mod cases;

@@ -1,5 +1,6 @@
-//! The commands: player, console, figures, rows, vectors, scores, calls, silence and compare.
+//! The commands: player, console, figures, rows, vectors, delays, scores, calls, silence and compare.
 
+use oracle::advance::every_delay;
 use oracle::cases::{write_cases, Report as Reached};
 use oracle::compare::compare;
 use oracle::console::answers;
@@ -17,6 +18,7 @@ oracle console < text
 oracle figures
 oracle rows [NAME]
 oracle vectors
+oracle delays
 oracle scores SEED COUNT DIR
 oracle calls SEED COUNT DIR
 oracle silence SEED COUNT
@@ -70,7 +72,7 @@ fn print_rows(name: &str) -> Result<(), String> {
 
 /// What the cases reached, one number per line.
 fn print_report(report: &Reached) -> Result<(), String> {
-    for (number, count) in report.refusals.iter().enumerate() {
+    for (number, count) in report.numbers() {
         print(&format!("answer {number}: {count}\n"))?;
     }
     let tally = &report.tally;
@@ -123,6 +125,7 @@ fn main() -> ExitCode {
         ["player"] => player(),
         ["console"] => console(),
         ["figures"] => print_figures(),
+        ["delays"] => print(&every_delay()),
         ["rows"] => print(&names()),
         ["rows", name] => print_rows(name),
         ["vectors"] => print(&text()),

@@ -45,6 +45,8 @@ pub enum Refusal {
     CommitEarly = 20,
     /// Document 02: "21 commit or withdraw with nothing asked"
     NothingAsked = 21,
+    /// The least advance: "where none does, it says so by a number of its own"
+    NoAdvance = 32,
 }
 
 /// What a call answers besides its values.

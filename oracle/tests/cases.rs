@@ -8,7 +8,7 @@ fn texts() {
     for index in 0..400 {
         assert_eq!(report.text(7, index).1, Ok(()));
     }
-    assert!(report.refusals.iter().all(|count| *count > 0), "{:?}", report.refusals);
+    assert!(report.numbers().all(|(_, count)| count > 0), "{:?}", report.refusals);
     assert!(report.errors > 0 && report.tally.equal > 0 && report.tally.differing > 0);
     assert!(report.tally.late > 20, "{:?}", report.tally);
     assert!(report.tally.raised > 100 && report.tally.lowered > 100, "{:?}", report.tally);

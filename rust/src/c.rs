@@ -17,6 +17,7 @@ extern "C" {
         threshold: u32,
         length: &mut u32,
     ) -> u32;
+    pub fn jivaszte_least_advance(order: u32, delay: u32, wanted: u32, advance: &mut u32) -> u32;
     pub fn jivaszte_note(
         order: u32,
         rate: u32,

@@ -1,4 +1,4 @@
-//! Coefficients, effective lengths, notes and the noise.
+//! Coefficients, effective lengths, least advances, notes and the noise.
 
 use crate::c;
 use crate::Refusal;
@@ -23,6 +23,17 @@ pub fn effective_length(order: u32, delay: u32, threshold: u32) -> Result<u32, R
     let number = unsafe { c::jivaszte_effective_length(order, delay, threshold, &mut length) };
     Refusal::of(number)?;
     Ok(length)
+}
+
+/// The least advance, 0 to 64, with which every sample after a change to this order and delay is at most
+/// `wanted` units from that of the ideal filter, whatever was played before. Refuses by `Order`, `Delay`,
+/// and by `NoAdvance` where none is enough.
+pub fn least_advance(order: u32, delay: u32, wanted: u32) -> Result<u32, Refusal> {
+    let mut advance = 0;
+    // SAFETY: the reference is valid.
+    let number = unsafe { c::jivaszte_least_advance(order, delay, wanted, &mut advance) };
+    Refusal::of(number)?;
+    Ok(advance)
 }
 
 /// The length and the delay by which a voice sounds a note, numbered as in MIDI, at a rate in samples a

@@ -17,7 +17,7 @@ mod refusal;
 mod score;
 mod wav;
 
-pub use filter::{coefficients, draw, effective_length, note, ORDERS};
+pub use filter::{coefficients, draw, effective_length, least_advance, note, ORDERS};
 pub use list::{perform, Call, Opening, Performed};
 pub use refusal::Refusal;
 pub use score::{gather, record, run, Played, Record, Stopped};

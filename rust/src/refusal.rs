@@ -69,6 +69,7 @@ refusals! {
     20 CommitEarly "the asked change has taken fewer samples than the advance"
     21 NothingAsked "no asked change waits"
     31 ListForm "the words are no list of calls, or need more room than is lent"
+    32 NoAdvance "no advance from 0 to 64 keeps a change within the wanted distance"
 }
 
 impl fmt::Display for Refusal {

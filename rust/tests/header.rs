@@ -4,19 +4,20 @@ use jivaszte::Refusal;
 
 const HEADER: &str = include_str!("../../include/jivaszte.h");
 
-/// `JIVASZTE_NAME = NUMBER` of the header's first enum, and the number of a list's form.
+/// `JIVASZTE_NAME = NUMBER` of the header's first enum, and the numbers that stand alone.
 fn numbers() -> Vec<(String, u32)> {
     let read = |line: &str| {
         let (name, number) = line.split_once(" = ")?;
         Some((name.to_string(), number.parse().ok()?))
     };
     let first = HEADER.split("enum {").nth(1).unwrap().split("};").next().unwrap();
-    let list = HEADER.lines().find_map(|line| line.strip_prefix("enum { JIVASZTE_LIST_FORM = "));
     let names = first
         .lines()
         .filter_map(|line| read(line.trim().strip_prefix("JIVASZTE_")?.trim_end_matches(',')));
-    let last = list.and_then(|line| line.split(' ').next()?.parse().ok()).unwrap();
-    names.chain([(String::from("LIST_FORM"), last)]).collect()
+    let alone = HEADER
+        .lines()
+        .filter_map(|line| read(line.strip_prefix("enum { JIVASZTE_")?.strip_suffix(" };")?));
+    names.chain(alone).collect()
 }
 
 /// CHANGE_WAITS is ChangeWaits here.
@@ -50,10 +51,12 @@ fn every_refusal_has_the_words_of_the_header() {
     let rows = table.lines().filter_map(|row| row.trim().strip_prefix('"')?.strip_suffix("\","));
     let words: Vec<&str> = rows.collect();
     assert_eq!(words[0], "done");
-    for refusal in Refusal::ALL.iter().filter(|refusal| refusal.number() != 31) {
+    let listed = Refusal::ALL.iter().filter(|refusal| refusal.number() < 31);
+    for refusal in listed.clone() {
         assert_eq!(refusal.to_string(), words[refusal.number() as usize]);
     }
-    assert_eq!(words.len(), Refusal::ALL.len(), "a refusal has no words in the crate");
+    assert_eq!(words.len(), listed.count() + 1, "a refusal has no words in the crate");
+    assert!(HEADER.contains(&format!("return \"{}\";", Refusal::NoAdvance)));
     assert!(
         Refusal::Other(99).words() == "no number of a refusal"
             && HEADER.contains("\"no number of a refusal\"")

@@ -16,7 +16,7 @@ use Rattle.advance.proofs.Returns.{returns}
 pub keeps : (o : Opening) (cs : List Call) (N d wanted : ℕ) → Keeps o cs N d wanted
 keeps o cs N d wanted pre post c m k short order delay zero enough =
     let Na = leastAdvance N d wanted .na in
-    let p = returns .answers N d wanted .least Na .0 (zero, refl) in
+    let p = returns .advances N d wanted .least Na .0 (zero, refl) in
     let t = ranges .takes N d .1 (p .0) in
     let n = norm (coefficients N d) in
     let K = Na / N in

@@ -13,7 +13,7 @@ use Rattle.refusal.proofs.Ranges.{in-range, ordered, delayed}
 use Rattle.thiran.specs.Coefficients.{coefficients, norm}
 use Rattle.allpass.specs.Bounds.{ownFigure}
 use Rattle.advance.specs.Least.{first, enough, limits, leastAdvance}
-use Rattle.advance.specs.Returns.{Does, Least, Answers, Returns}
+use Rattle.advance.specs.Returns.{Does, Least, Advances, Returns}
 use Rattle.advance.specs.declared.Advance.{Advance}
 use Rattle.advance.proofs.First.{Stands, first-stands, first-is}
 use Rattle.advance.proofs.Refusals.{taken, turned}
@@ -102,8 +102,8 @@ module _ (N d wanted : ℕ) where
   refused-is : (r .refusal ≡ 0 → ⊥) → r .na ≡ 0
   refused-is f = ap (λ (s : Advance). s .na) (turned N d wanted (λ z. f (sym number-is ∙ z)))
 
-  answers : Answers N d wanted r
-  answers = record {
+  advances : Advances N d wanted r
+  advances = record {
     order = told 1 (refused [] (order N) (delay N d ∷ enough F ∷ []) tt);
     delay = told 3 three;
     none = told 32 none;
@@ -112,4 +112,4 @@ module _ (N d wanted : ℕ) where
   }
 
 pub returns : Returns
-returns = record { answers = answers }
+returns = record { advances = advances }

@@ -21,7 +21,7 @@ pub record Least (N d wanted Na : ℕ) : Type 0 where
   pub before : (a : ℕ) → a < Na → Does N d wanted a → ⊥
 
 -- each number if and only if, and what comes back with it
-pub record Answers (N d wanted : ℕ) (r : Advance) : Type 0 where
+pub record Advances (N d wanted : ℕ) (r : Advance) : Type 0 where
   pub order : (r .refusal ≡ 1) ↔ (Between 1 N 3 → ⊥)
   pub delay : (r .refusal ≡ 3) ↔ (Between 1 N 3 × (InRange N d → ⊥))
   pub none : (r .refusal ≡ 32) ↔ (InRange N d × ((a : ℕ) → a ≤ 64 → Does N d wanted a → ⊥))
@@ -29,7 +29,7 @@ pub record Answers (N d wanted : ℕ) (r : Advance) : Type 0 where
   pub refused : (r .refusal ≡ 0 → ⊥) → r .na ≡ 0
 
 pub record Returns : Type 0 where
-  pub answers : (N d wanted : ℕ) → Answers N d wanted (leastAdvance N d wanted)
+  pub advances : (N d wanted : ℕ) → Advances N d wanted (leastAdvance N d wanted)
 
 -- for a wanted 2: A4 in each order at 44,100 samples a second, the delays that need most, where none is enough, where D
 -- is the order, and a distance that is met at once

@@ -17,6 +17,7 @@ use request::kinds::COEFFICIENTS;
 use request::kinds::DRAW;
 use request::kinds::GATHER;
 use request::kinds::HELP;
+use request::kinds::LEAST;
 use request::kinds::LENGTH;
 use request::kinds::NOTE;
 use request::kinds::RECORD;
@@ -40,6 +41,13 @@ fn length(buffer: &mut [u8; 4096], at: usize, l: Request) -> usize
 {
     let r = allpass::effective_length(l.a, l.b, l.c);
     pair(buffer, at, r.refusal, r.length)
+}
+
+fn least(buffer: &mut [u8; 4096], at: usize, l: Request) -> usize
+    ensures { λ r. ⌜ r ≤ 4097 ⌝ }
+{
+    let r = advance::least(l.a, l.b, l.c);
+    pair(buffer, at, r.refusal, r.na)
 }
 
 fn note(buffer: &mut [u8; 4096], at: usize, l: Request) -> usize
@@ -123,6 +131,7 @@ pub fn asked(buffer: &mut [u8; 4096], at: usize, s: &[u8], l: Request) -> usize
         WAVWRITE => recordings::write(buffer, at, s, l),
         WAVREAD => recordings::read(buffer, at, s, l),
         GATHER => gather(buffer, at, s, l),
+        LEAST => least(buffer, at, l),
         HELP => help(buffer, at),
         _ => at,
     }

@@ -5,6 +5,7 @@ ghost use Prim.Native.Nat.{_≤_};
 ghost use lib.ListN.{length, drop};
 ghost use Rattle.thiran.specs.Answers.{design};
 ghost use Rattle.allpass.specs.Length.{effectiveLength};
+ghost use Rattle.advance.specs.Least.{leastAdvance};
 ghost use Rattle.pitch.specs.Pitch.{pitch};
 ghost use Rattle.noise.specs.Noise.{drawn};
 ghost use Rattle.octets.specs.Octets.{gathered};
@@ -53,6 +54,16 @@ pub extern "C" fn jivaszte_effective_length(
     let m = allpass::effective_length(order, d, threshold);
     *length = m.length;
     m.refusal
+}
+
+// The least advance with which each sample after a change to an order and a delay is at most `wanted` from the ideal.
+#[no_mangle]
+pub extern "C" fn jivaszte_least_advance(order: u32, d: u32, wanted: u32, advance: &mut u32) -> u32
+    ensures { λ r. ⌜ record { refusal = r; na = now (advance .exit) } ≡ leastAdvance order d wanted ⌝ }
+{
+    let f = advance::least(order, d, wanted);
+    *advance = f.na;
+    f.refusal
 }
 
 // L and d of a note at a rate.

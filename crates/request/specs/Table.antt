@@ -28,6 +28,7 @@ table =
     ++ ascii "wavwrite takes RATE ROOM X1 X2 .. (ROOM at most 16384, X 4096)\n"
     ++ ascii "wavread takes ROOM B1 B2 .. (ROOM at most 4096)\n"
     ++ ascii "gather takes START B1 B2 ..\n"
+    ++ ascii "least takes N D WANTED\n"
     ++ ascii "help takes nothing\n"
     ++ ascii "no call has this name: help lists them\n"
     ++ ascii "a line has at most 1048576 bytes\n"
@@ -38,9 +39,9 @@ row t kind = piece 10 (kind - 1) t
 abbrev pub name : List ℕ → ℕ → List ℕ
 name t kind = cut 32 (row t kind)
 
--- the kind that a word names by the rows of t: the first whose name it is, and 22 where it is none of the first 21
+-- the kind that a word names by the rows of t: the first whose name it is, and 23 where it is none of the first 22
 pub record Named (t w : List ℕ) (kind : ℕ) : Type 0 where
   pub least : 1 ≤ kind
-  pub most : kind ≤ 22
-  pub here : kind < 22 → w ≡ name t kind
+  pub most : kind ≤ 23
+  pub here : kind < 23 → w ≡ name t kind
   pub none : (k : ℕ) → 1 ≤ k → k < kind → w ≡ name t k → ⊥

@@ -1,5 +1,5 @@
 // The kinds of lines: their names, how many numbers follow each, and the largest counts of samples.
-// 0 is a line with no word, 22 one that is none of the others, and 23 one that is too long.
+// 0 is a line with no word, 23 one that is none of the others, and 24 one that is too long.
 ghost use Prim.Native.Nat.{_≤_};
 ghost use Rattle.request.specs.Table.{table as Table, Named};
 use crate::lists::Taken;
@@ -49,13 +49,15 @@ pub const WAVREAD: u32 = 19;
 
 pub const GATHER: u32 = 20;
 
-pub const HELP: u32 = 21;
+pub const LEAST: u32 = 21;
 
-pub const ERROR: u32 = 22;
+pub const HELP: u32 = 22;
 
-pub const LONG: u32 = 23;
+pub const ERROR: u32 = 23;
 
-// The place of a word among the names of a table's rows, from 1; 22 where it is none of the first 21.
+pub const LONG: u32 = 24;
+
+// The place of a word among the names of a table's rows, from 1; 23 where it is none of the first 22.
 fn place(w: &[u8], table: &[u8]) -> u32
     ensures { λ r. ⌜ Named (now (table .entry)) (now (w .entry)) r ⌝ }
 {
@@ -86,7 +88,7 @@ pub fn wanted(kind: u32) -> usize
 {
     match kind {
         OPEN => 5,
-        PLUCK | ANNOUNCE | INSTANT | ASK | LENGTH | NOTE => 3,
+        PLUCK | ANNOUNCE | INSTANT | ASK | LENGTH | NOTE | LEAST => 3,
         COEFFICIENTS | WAVWRITE => 2,
         LOSS | BLOCK | DRAW | RUN | LINE | WAVREAD | GATHER => 1,
         _ => 0,

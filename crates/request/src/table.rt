@@ -1,6 +1,6 @@
 // What each call takes, a row for each kind from OPEN to HELP in their order; then what is said of a line whose
 // name is none of these, and of one that is too long. No row has more than 64 bytes. specs/Table.antt has it too.
-pub const TABLE: [u8; 636] = *b"\
+pub const TABLE: [u8; 659] = *b"\
     open takes N L D G NA\n\
     loss takes G\n\
     pluck takes A COUNT SEED\n\
@@ -21,6 +21,7 @@ pub const TABLE: [u8; 636] = *b"\
     wavwrite takes RATE ROOM X1 X2 .. (ROOM at most 16384, X 4096)\n\
     wavread takes ROOM B1 B2 .. (ROOM at most 4096)\n\
     gather takes START B1 B2 ..\n\
+    least takes N D WANTED\n\
     help takes nothing\n\
     no call has this name: help lists them\n\
     a line has at most 1048576 bytes\n";

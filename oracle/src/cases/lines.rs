@@ -23,7 +23,7 @@ fn gather(text: &mut Text) {
     text.line(format!("gather {start}{}", hex(&bytes)));
 }
 
-/// Coefficients, effective lengths, notes, draws and gathers; one argument in four on a limit or beyond it,
+/// Coefficients, effective lengths, least advances, notes, draws and gathers; one argument in four on a limit or beyond it,
 /// then notes on a limit.
 pub fn routines(random: Random) -> Text {
     let mut text = Text::new(random, 4, false);
@@ -36,6 +36,9 @@ pub fn routines(random: Random) -> Text {
             text.random.pick(&[0, 1, 10, 1_000, 100_000, 999_999, 1_000_000, 1_000_001]);
         let threshold = text.value(threshold, 0, 1_000_000);
         text.line(format!("length {order} {delay} {threshold}"));
+        let wanted = text.random.pick(&[0, 1, 2, 3, 12, 1_000, 8_388_607, 16_777_214, 25_165_824]);
+        let wanted = text.value(wanted, 0, 2);
+        text.line(format!("least {order} {delay} {wanted}"));
         let rate = text.random.pick(&[8_000, 11_025, 22_050, 44_100, 48_000, 96_000, 192_000]);
         let (rate, note) = (text.value(rate, 8_000, 192_000), text.random.between(0, 127));
         let note = text.value(note, 0, 127);

@@ -32,10 +32,10 @@ pub struct Case {
 }
 
 /// What all the cases of one command reached.
-#[derive(Debug, Default)]
+#[derive(Debug)]
 pub struct Report {
-    /// Answers by refusal number, 0 for success.
-    pub refusals: [u64; 22],
+    /// Answers by refusal number, 0 for success; from 22 to 31 there is none.
+    pub refusals: [u64; 33],
     /// Lines answered by `error`.
     pub errors: u64,
     /// What was compared for demand 3.
@@ -66,7 +66,18 @@ pub fn lists_of(text: &[u8]) -> Vec<(Voice, Vec<Call>)> {
     lists
 }
 
+impl Default for Report {
+    fn default() -> Report {
+        Report { refusals: [0; 33], errors: 0, tally: Tally::default() }
+    }
+}
+
 impl Report {
+    /// The numbers that answers have, and how often each was reached.
+    pub fn numbers(&self) -> impl Iterator<Item = (usize, u64)> + '_ {
+        (0..=21).chain([32]).map(|number| (number, self.refusals[number]))
+    }
+
     /// Counts the refusal numbers in the answers of the console.
     fn count_answers(&mut self, printed: &str) {
         for line in printed.lines() {
