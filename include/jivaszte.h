@@ -1,7 +1,8 @@
 /* Jivaszte for C: the routines of libjivaszte.a, which `rt staticlib jivaszte` proves and writes, and `make install` puts
    where `cc host.c $(pkg-config --cflags --libs jivaszte)` finds it.
 
-   Every routine is safe for every number and every byte. Of its pointers a caller owes what C always asks: none is
+   Every routine is safe for every number and every byte, but that the calls on a jivaszte_voice ask for one that was
+   opened. Of its pointers a caller owes what C always asks: none is
    null, not even with length 0; each refers to as many values as its length or its type says; and what is written
    overlaps nothing else that is passed. No routine keeps a pointer, allocates, or touches a variable of its own:
    calls in several threads do not disturb each other.
@@ -174,6 +175,103 @@ enum {
 uint32_t jivaszte_perform(uint32_t order, uint32_t length, uint32_t delay, uint32_t loss, uint32_t advance,
                           const uint32_t *words, size_t count, const int32_t *input, size_t samples, int32_t *output,
                           size_t room, uint32_t *numbers, size_t places, uint32_t *opening, size_t *written);
+
+/* A voice that the host keeps, 8,556 bytes: open it, render block after block, and make calls in between. Its fields are
+   for the routines below alone. A host owes three things: a voice is opened before anything else is called on it, nothing
+   but these routines writes to it, and one thread at a time uses it. It may be copied whole, which makes a second voice;
+   several voices do not disturb each other. After an opening that was refused it holds the refusal voice: order 1, length
+   1, delay 4,096, loss 0, advance 0, at rest. */
+enum { JIVASZTE_HEAD = 27, JIVASZTE_LINE = 2112 };
+typedef struct {
+    uint32_t head[JIVASZTE_HEAD];
+    int32_t line[JIVASZTE_LINE];
+} jivaszte_voice;
+
+/* The routines behind the calls on a voice, over its two fields. */
+uint32_t jivaszte_packed_open(uint32_t *head, int32_t *line, uint32_t order, uint32_t length, uint32_t delay,
+                              uint32_t loss, uint32_t advance);
+uint32_t jivaszte_packed_loss(uint32_t *head, uint32_t loss);
+uint32_t jivaszte_packed_pluck(uint32_t *head, uint32_t amplitude, uint32_t count, uint32_t seed);
+uint32_t jivaszte_packed_announce(uint32_t *head, uint32_t order, uint32_t length, uint32_t delay);
+uint32_t jivaszte_packed_instant(uint32_t *head, const int32_t *line, uint32_t order, uint32_t length, uint32_t delay,
+                                 uint32_t *count);
+uint32_t jivaszte_packed_ask(uint32_t *head, uint32_t order, uint32_t length, uint32_t delay);
+uint32_t jivaszte_packed_commit(uint32_t *head);
+uint32_t jivaszte_packed_withdraw(uint32_t *head);
+uint32_t jivaszte_packed_block(uint32_t *head, int32_t *line, const int32_t *input, size_t samples, int32_t *output,
+                               size_t room);
+uint32_t jivaszte_packed_play(uint32_t *head, int32_t *line, int32_t *output, size_t count);
+uint32_t jivaszte_packed_waits(const uint32_t *head);
+
+/* Opens a voice, whatever the memory held. Refuses by 1, 2, 3, 4, 5. */
+static inline uint32_t jivaszte_voice_open(jivaszte_voice *voice, uint32_t order, uint32_t length, uint32_t delay,
+                                           uint32_t loss, uint32_t advance)
+{
+    return jivaszte_packed_open(voice->head, voice->line, order, length, delay, loss, advance);
+}
+
+/* The calls, as in a list; a refused one leaves the voice as it was. Sets the loss: 4. */
+static inline uint32_t jivaszte_voice_loss(jivaszte_voice *voice, uint32_t loss)
+{
+    return jivaszte_packed_loss(voice->head, loss);
+}
+
+/* Starts a pluck in place of the rest of the old one: 7, 8. */
+static inline uint32_t jivaszte_voice_pluck(jivaszte_voice *voice, uint32_t amplitude, uint32_t count, uint32_t seed)
+{
+    return jivaszte_packed_pluck(voice->head, amplitude, count, seed);
+}
+
+/* Announces a change, which takes effect after as many samples as the advance: 1, 2, 3, 6. */
+static inline uint32_t jivaszte_voice_announce(jivaszte_voice *voice, uint32_t order, uint32_t length, uint32_t delay)
+{
+    return jivaszte_packed_announce(voice->head, order, length, delay);
+}
+
+/* Changes at once; count is how many samples of the line its second filter was run over, 0 where it is refused: 1, 2,
+   3, 6. */
+static inline uint32_t jivaszte_voice_instant(jivaszte_voice *voice, uint32_t order, uint32_t length, uint32_t delay,
+                                              uint32_t *count)
+{
+    return jivaszte_packed_instant(voice->head, voice->line, order, length, delay, count);
+}
+
+/* Asks for a change, which waits for its commit: 1, 2, 3, 6. */
+static inline uint32_t jivaszte_voice_ask(jivaszte_voice *voice, uint32_t order, uint32_t length, uint32_t delay)
+{
+    return jivaszte_packed_ask(voice->head, order, length, delay);
+}
+
+/* Puts the asked change in force, before the next sample: 21, 20. */
+static inline uint32_t jivaszte_voice_commit(jivaszte_voice *voice)
+{
+    return jivaszte_packed_commit(voice->head);
+}
+
+/* Drops the asked change: 21. */
+static inline uint32_t jivaszte_voice_withdraw(jivaszte_voice *voice)
+{
+    return jivaszte_packed_withdraw(voice->head);
+}
+
+/* A block: an output for each input, samples of them, into a room as long: 9, 10, and then the output is untouched. */
+static inline uint32_t jivaszte_voice_block(jivaszte_voice *voice, const int32_t *input, size_t samples, int32_t *output,
+                                            size_t room)
+{
+    return jivaszte_packed_block(voice->head, voice->line, input, samples, output, room);
+}
+
+/* A block of zeros, count of them, for hosts that feed nothing: never refused. */
+static inline uint32_t jivaszte_voice_play(jivaszte_voice *voice, int32_t *output, size_t count)
+{
+    return jivaszte_packed_play(voice->head, voice->line, output, count);
+}
+
+/* How many samples an announced change still takes, or an asked one until its commit is accepted; 0 where none waits. */
+static inline uint32_t jivaszte_voice_waits(const jivaszte_voice *voice)
+{
+    return jivaszte_packed_waits(voice->head);
+}
 
 /* Plays a score on a voice of its own, whose order its changes keep. Refuses by 14, those of the opening (1, 2, 3, 5),
    and at a record by 14, 15, 16, 2, 3, 6, 7, 8. place is the index of the record that was refused, the count of records

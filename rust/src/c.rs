@@ -1,5 +1,6 @@
 //! The routines of include/jivaszte.h as they are linked. Every number and every byte is safe; of the
-//! pointers they ask what Rust's references give: valid for their lengths, and no overlap.
+//! pointers they ask what Rust's references give: valid for their lengths, and no overlap. Those over a
+//! head ask for a voice that `jivaszte_packed_open` made, which src/voice.rs alone gives them.
 
 #[link(name = "jivaszte", kind = "static")]
 extern "C" {
@@ -45,6 +46,54 @@ extern "C" {
         opening: &mut u32,
         written: &mut usize,
     ) -> u32;
+    pub fn jivaszte_packed_open(
+        head: &mut [u32; 27],
+        line: &mut [i32; 2112],
+        order: u32,
+        length: u32,
+        delay: u32,
+        loss: u32,
+        advance: u32,
+    ) -> u32;
+    pub fn jivaszte_packed_loss(head: &mut [u32; 27], loss: u32) -> u32;
+    pub fn jivaszte_packed_pluck(
+        head: &mut [u32; 27],
+        amplitude: u32,
+        count: u32,
+        seed: u32,
+    ) -> u32;
+    pub fn jivaszte_packed_announce(
+        head: &mut [u32; 27],
+        order: u32,
+        length: u32,
+        delay: u32,
+    ) -> u32;
+    pub fn jivaszte_packed_instant(
+        head: &mut [u32; 27],
+        line: &[i32; 2112],
+        order: u32,
+        length: u32,
+        delay: u32,
+        count: &mut u32,
+    ) -> u32;
+    pub fn jivaszte_packed_ask(head: &mut [u32; 27], order: u32, length: u32, delay: u32) -> u32;
+    pub fn jivaszte_packed_commit(head: &mut [u32; 27]) -> u32;
+    pub fn jivaszte_packed_withdraw(head: &mut [u32; 27]) -> u32;
+    pub fn jivaszte_packed_block(
+        head: &mut [u32; 27],
+        line: &mut [i32; 2112],
+        input: *const i32,
+        samples: usize,
+        output: *mut i32,
+        room: usize,
+    ) -> u32;
+    pub fn jivaszte_packed_play(
+        head: &mut [u32; 27],
+        line: &mut [i32; 2112],
+        output: *mut i32,
+        count: usize,
+    ) -> u32;
+    pub fn jivaszte_packed_waits(head: &[u32; 27]) -> u32;
     pub fn jivaszte_run(
         score: *const u8,
         length: usize,

@@ -1,7 +1,8 @@
 //! A plucked string with a tunable allpass loop, proved: the routines of jivaszte.h as safe functions.
 //!
-//! What the library refuses comes back as a [`Refusal`], which has the number and the words. Nothing is
-//! kept between two calls, and none allocates but [`wav_file`] and [`Call::list`].
+//! What the library refuses comes back as a [`Refusal`], which has the number and the words. A [`Voice`] is
+//! the caller's own memory; the library keeps nothing, and no call allocates but [`wav_file`] and
+//! [`Call::list`].
 //!
 //! ```
 //! use jivaszte::{note, Refusal};
@@ -15,12 +16,14 @@ mod filter;
 mod list;
 mod refusal;
 mod score;
+mod voice;
 mod wav;
 
 pub use filter::{coefficients, draw, effective_length, least_advance, note, ORDERS};
 pub use list::{perform, Call, Opening, Performed};
 pub use refusal::Refusal;
 pub use score::{gather, record, run, Played, Record, Stopped};
+pub use voice::Voice;
 pub use wav::{wav_file, wav_read, wav_size, wav_write, MOST_SAMPLES};
 
 /// The version of this crate; header and program have the same.

@@ -15,6 +15,8 @@ ghost use Rattle.score.specs.Played.{Runs};
 ghost use Rattle.wav.specs.Written.{written, left};
 ghost use Rattle.wav.specs.Recorded.{recorded, filled};
 
+mod calls;
+
 // A1, A2 and A3 of an order and a delay.
 #[no_mangle]
 pub extern "C" fn jivaszte_coefficients(
