@@ -3,6 +3,7 @@
 use crate::click::MOST_ADVANCE;
 use crate::failure::{Failure, Outcome};
 use crate::options::{missing, option, takes_value, unknown};
+use crate::say::quoted;
 use crate::text::Instead;
 use crate::tuning::{ORDERS, RATES};
 use std::ffi::OsString;
@@ -40,7 +41,7 @@ impl Arguments {
                         (false, Some(_)) => return Err(unknown(command, text)),
                     };
                     if arguments.values.iter().any(|(before, _)| *before == letter) {
-                        return Err(Failure::call(format!("{text} is given twice")));
+                        return Err(Failure::call(format!("{} is given twice", quoted(text))));
                     }
                     arguments.values.push((letter, value));
                 }
@@ -107,7 +108,8 @@ impl Arguments {
 fn ranged(value: &str, what: &str, range: RangeInclusive<u32>) -> Outcome<u32> {
     let number = value.parse().ok().filter(|number| range.contains(number));
     let (low, high) = (range.start(), range.end());
-    number.ok_or_else(|| Failure::call(format!("{what} is {low} to {high}, not `{value}`")))
+    number
+        .ok_or_else(|| Failure::call(format!("{what} is {low} to {high}, not `{}`", quoted(value))))
 }
 
 #[cfg(test)]

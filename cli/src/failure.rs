@@ -1,5 +1,6 @@
 //! What ends a command early: a message for standard error and the exit status.
 
+use crate::say::plain;
 use std::path::Path;
 
 /// Bad input, or a file that cannot be read or written.
@@ -28,6 +29,6 @@ impl Failure {
     pub fn file(what: &str, path: &Path, error: &std::io::Error) -> Self {
         let words = error.to_string();
         let reason = words.split(" (os error").next().unwrap_or_default();
-        Failure::input(format!("cannot {what} {}: {reason}", path.display()))
+        Failure::input(format!("cannot {what} {}: {reason}", plain(&path.to_string_lossy())))
     }
 }

@@ -2,6 +2,7 @@
 
 use crate::failure::{Failure, Outcome};
 use crate::new_file::NewFile;
+use crate::say::plain;
 use std::fs::{self, File};
 use std::io::{self, Read, Write};
 use std::path::Path;
@@ -9,13 +10,26 @@ use std::path::Path;
 /// The name that stands for standard input and standard output.
 const STANDARD: &str = "-";
 
+/// A score is at most so many bytes, text or not.
+pub const MOST_BYTES: u64 = 64 << 20;
+
+/// Reads a score.
 pub fn read(path: &Path) -> Outcome<Vec<u8>> {
     let mut bytes = Vec::new();
+    let limit = MOST_BYTES + 1;
     let done = match is_standard(path) {
-        true => io::stdin().lock().read_to_end(&mut bytes),
-        false => File::open(path).and_then(|mut file| file.read_to_end(&mut bytes)),
+        true => io::stdin().lock().take(limit).read_to_end(&mut bytes),
+        false => File::open(path).and_then(|file| file.take(limit).read_to_end(&mut bytes)),
     };
-    done.map(|_| bytes).map_err(|error| Failure::file("read", path, &error))
+    done.map_err(|error| Failure::file("read", path, &error))?;
+    match bytes.len() as u64 > MOST_BYTES {
+        true => Err(Failure::input(format!(
+            "{}: this is no score: it has more than {} MiB",
+            input_name(path),
+            MOST_BYTES >> 20
+        ))),
+        false => Ok(bytes),
+    }
 }
 
 /// What messages call a file that is read.
@@ -31,7 +45,7 @@ pub fn output_name(path: &Path) -> String {
 fn named(path: &Path, standard: &str) -> String {
     match is_standard(path) {
         true => String::from(standard),
-        false => path.display().to_string(),
+        false => plain(&path.to_string_lossy()),
     }
 }
 
@@ -39,7 +53,27 @@ fn named(path: &Path, standard: &str) -> String {
 pub fn refuse_same(input: &Path, output: &Path) -> Outcome {
     match (fs::canonicalize(input), fs::canonicalize(output)) {
         (Ok(from), Ok(to)) if from == to && to.is_file() => {
-            Err(Failure::input(format!("{} would be overwritten: name another", input.display())))
+            Err(Failure::input(format!("{} would be overwritten: name another", input_name(input))))
+        }
+        _ => Ok(()),
+    }
+}
+
+/// Endings of what a program like this might be asked for, and does not write.
+const SOUNDS: [&str; 12] =
+    ["flac", "mp3", "ogg", "oga", "opus", "m4a", "aac", "aif", "aiff", "au", "wma", "mid"];
+const PICTURES: [&str; 7] = ["png", "jpg", "jpeg", "gif", "webp", "pdf", "bmp"];
+
+/// Refuses a name whose ending promises another form than the one that is written.
+pub fn refuse_form(output: &Path, form: &str) -> Outcome {
+    let end = output.extension().unwrap_or_default().to_string_lossy().to_lowercase();
+    let name = output_name(output);
+    match (SOUNDS.contains(&end.as_str()), PICTURES.contains(&end.as_str())) {
+        (true, _) if form == "WAV" => Err(Failure::call(format!(
+            "{name}: play writes WAV, not {end}: name it TAKE.wav, then `sox TAKE.wav {name}`"
+        ))),
+        (true, _) | (_, true) => {
+            Err(Failure::call(format!("{name}: what is written is {form}, not {end}")))
         }
         _ => Ok(()),
     }
@@ -50,7 +84,7 @@ pub fn print(text: &str) -> Outcome {
     print_bytes(text.as_bytes())
 }
 
-fn print_bytes(bytes: &[u8]) -> Outcome {
+pub fn print_bytes(bytes: &[u8]) -> Outcome {
     let mut out = io::stdout().lock();
     match out.write_all(bytes).and_then(|()| out.flush()) {
         Err(error) if error.kind() == io::ErrorKind::BrokenPipe => Err(Failure::input("")),

@@ -1,6 +1,7 @@
 //! A file that is written whole or not at all.
 
 use crate::failure::{Failure, Outcome};
+use crate::signals;
 use std::fs::{self, File};
 use std::io::{self, Write};
 use std::path::{Path, PathBuf};
@@ -21,14 +22,19 @@ impl NewFile {
             let file = File::options().write(true).open(path).map_err(failed)?;
             return Ok(NewFile { target: path.into(), temporary: None, file });
         }
-        if found.is_ok_and(|found| found.is_dir()) {
+        if found.as_ref().is_ok_and(|found| found.is_dir()) {
             return Err(failed(io::ErrorKind::IsADirectory.into()));
+        }
+        if found.is_ok_and(|found| found.permissions().readonly()) {
+            return Err(failed(io::Error::other("it is read-only")));
         }
         let target = fs::canonicalize(path).unwrap_or_else(|_| path.into());
         let mut name = target.file_name().unwrap_or_default().to_os_string();
         name.push(format!(".{}.part", std::process::id()));
         let temporary = target.with_file_name(name);
-        let file = File::options().write(true).create_new(true).open(&temporary).map_err(failed)?;
+        signals::unfinished(&temporary);
+        let file = File::options().write(true).create_new(true).open(&temporary);
+        let file = file.inspect_err(|_| signals::finished()).map_err(failed)?;
         Ok(NewFile { target, temporary: Some(temporary), file })
     }
 
@@ -42,6 +48,7 @@ impl NewFile {
         if let Some(temporary) = &self.temporary {
             self.file.sync_all().map_err(failed)?;
             fs::rename(temporary, &self.target).map_err(failed)?;
+            signals::finished();
             self.temporary = None;
         }
         Ok(())
@@ -52,6 +59,7 @@ impl Drop for NewFile {
     fn drop(&mut self) {
         if let Some(temporary) = &self.temporary {
             let _ = fs::remove_file(temporary);
+            signals::finished();
         }
     }
 }

@@ -1,6 +1,7 @@
 //! The options that commands take, by letter and by long name.
 
 use crate::failure::{Failure, Outcome};
+use crate::say::quoted;
 use std::ffi::OsString;
 
 /// The options: the letter, the long name, and what follows it, if anything does.
@@ -31,7 +32,7 @@ pub fn option(command: &str, text: &str, letters: &str) -> Outcome<(char, Option
 }
 
 pub fn unknown(command: &str, text: &str) -> Failure {
-    Failure::call(format!("{command} has no option {text}"))
+    Failure::call(format!("{command} has no option {}", quoted(text)))
 }
 
 pub fn takes_value(letter: char) -> bool {
@@ -40,5 +41,5 @@ pub fn takes_value(letter: char) -> bool {
 
 pub fn missing(text: &str, letter: char) -> Failure {
     let what = OPTIONS.iter().find(|(name, ..)| *name == letter).map_or("a value", |found| found.2);
-    Failure::call(format!("{text} needs {what}"))
+    Failure::call(format!("{} needs {what}", quoted(text)))
 }

@@ -3,6 +3,7 @@
 use crate::bytes::{records, Place};
 use crate::failure::{Failure, Outcome};
 use crate::files;
+use crate::kind::{self, looks_like_text};
 use crate::number::grouped;
 use crate::refusal;
 use crate::take::{self, Refused};
@@ -10,9 +11,6 @@ use crate::text::{compile_with, Compiled, Fault, Instead};
 use crate::tuning::DEFAULT_RATE;
 use jivaszte::Refusal;
 use std::path::Path;
-
-/// Text does not start with a byte below this one, the tab; bytes start with their order.
-const FIRST_OF_TEXT: u8 = b'\t';
 
 pub struct Tune {
     name: String,
@@ -41,6 +39,9 @@ impl Tune {
 
     pub fn of_text(path: &Path, bytes: Vec<u8>, instead: Instead) -> Outcome<Tune> {
         let name = files::input_name(path);
+        if let Some(words) = kind::other(&bytes) {
+            return Err(Failure::input(format!("{name}: {words}")));
+        }
         let text = utf8(&name, bytes)?;
         let compiled = compile_with(&text, instead).map_err(|faults| {
             let lines: Vec<String> = faults.iter().map(|fault| located(&name, fault)).collect();
@@ -57,7 +58,12 @@ impl Tune {
             let length = grouped(length);
             Failure::input(format!("{}: a take of {length} samples is too long", self.name))
         })?;
-        take::run(&self.bytes, room).map_err(|refused| Failure::input(self.refused(refused)))
+        let take = take::run(&self.bytes, room);
+        let take = take.map_err(|refused| Failure::input(self.refused(refused)))?;
+        match take.is_empty() {
+            true => Err(Failure::input(format!("{}: the take is empty: nothing waits", self.name))),
+            false => Ok(take),
+        }
     }
 
     /// What was refused, with its place: line and column of a text, index and offset of a record.
@@ -84,10 +90,6 @@ impl Tune {
         let of = |index| Some(Place::Record { index, offset: records(&self.bytes).nth(index)?.0 });
         record.and_then(of).unwrap_or(Place::Header)
     }
-}
-
-pub fn looks_like_text(bytes: &[u8]) -> bool {
-    bytes.first().is_none_or(|&first| first >= FIRST_OF_TEXT)
 }
 
 fn located(name: &str, fault: &Fault) -> String {

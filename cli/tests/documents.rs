@@ -6,7 +6,7 @@ use std::fs;
 use std::path::{Path, PathBuf};
 
 const SCORES: &str = include_str!("../../docs/SCORES.md");
-const HELP: &str = include_str!("../src/commands/help.txt");
+const HELP: &str = include_str!("../src/commands/help/all.txt");
 const MANUAL: &str = include_str!("../../docs/jivaszte.1");
 
 fn compiled(text: &str) -> Compiled {

@@ -153,9 +153,9 @@ fn clicks_are_drawn() {
 }
 
 #[test]
-fn an_empty_take_is_drawn() {
-    let tune =
-        Tune::of_text(Path::new("a<b>.txt"), b"tune A3\n".to_vec(), Instead::default()).unwrap();
+fn a_take_of_one_sample_is_drawn() {
+    let text = b"tune A3\nwait 1 sample\n".to_vec();
+    let tune = Tune::of_text(Path::new("a<b>.txt"), text, Instead::default()).unwrap();
     let picture = draw(&[Take::of("a<b>.txt", &tune, true).unwrap()]).document();
     well_formed(&picture);
     assert!(picture.contains("a&lt;b&gt;.txt"));

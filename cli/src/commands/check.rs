@@ -4,6 +4,7 @@ use crate::arguments::Arguments;
 use crate::failure::Outcome;
 use crate::files::{self, print};
 use crate::number::duration;
+use crate::say::say;
 use crate::take;
 use crate::tune::Tune;
 
@@ -12,7 +13,7 @@ pub fn run(arguments: &Arguments) -> Outcome {
     let tune = Tune::load(file, arguments.instead()?)?;
     let take = tune.run()?;
     if let Some(clipped) = take::clipped(&take) {
-        eprintln!("{}", clipped.words(tune.rate));
+        say(&clipped.words(tune.rate));
     }
     let (name, length) = (files::input_name(file), duration(take.len(), tune.rate));
     print(&format!("{name}: {length}, nothing refused\n"))

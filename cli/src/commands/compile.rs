@@ -3,6 +3,7 @@
 use crate::arguments::Arguments;
 use crate::failure::Outcome;
 use crate::files;
+use crate::say::say;
 use crate::tune::Tune;
 use crate::tuning::DEFAULT_RATE;
 
@@ -14,10 +15,10 @@ pub fn run(arguments: &Arguments) -> Outcome {
     files::write(&output, &tune.bytes)?;
     let name = files::output_name(&output);
     if tune.rate != DEFAULT_RATE {
-        eprintln!("{name} does not keep the rate: play it with -r {}", tune.rate);
+        say(&format!("{name} does not keep the rate: play it with -r {}", tune.rate));
     }
     if let Err(refused) = tune.run() {
-        eprintln!("{name} is written, but cannot be played:\n{}", refused.message);
+        say(&format!("{name} is written, but cannot be played:\n{}", refused.message));
     }
     Ok(())
 }

@@ -12,40 +12,54 @@ mod show;
 use crate::arguments::Arguments;
 use crate::failure::{Failure, Outcome};
 use crate::files::print;
+use crate::say::quoted;
 use std::ffi::OsString;
 
-/// A command: its name, the letters of its options, and what it does.
-type Command = (&'static str, &'static str, fn(&Arguments) -> Outcome);
+/// A command: its name, the letters of its options, its help, and what it does.
+type Command = (&'static str, &'static str, &'static str, fn(&Arguments) -> Outcome);
 
-const COMMANDS: [Command; 8] = [
-    ("play", "ora", play::run),
-    ("plot", "orac", plot::run),
-    ("page", "o", page::run),
-    ("compile", "or", compile::run),
-    ("show", "r", show::run),
-    ("check", "r", check::run),
-    ("note", "rn", note::run),
-    ("advance", "nd", advance::run),
+pub const COMMANDS: [Command; 8] = [
+    ("play", "ora", include_str!("help/play.txt"), play::run),
+    ("plot", "orac", include_str!("help/plot.txt"), plot::run),
+    ("page", "o", include_str!("help/page.txt"), page::run),
+    ("compile", "or", include_str!("help/compile.txt"), compile::run),
+    ("show", "r", include_str!("help/show.txt"), show::run),
+    ("check", "r", include_str!("help/check.txt"), check::run),
+    ("note", "rn", include_str!("help/note.txt"), note::run),
+    ("advance", "nd", include_str!("help/advance.txt"), advance::run),
 ];
 
-const HELP: &str = include_str!("help.txt");
+const HELP: &str = include_str!("help/all.txt");
 
 /// Runs the command that the words of a call name.
 pub fn run(words: &[OsString]) -> Outcome {
     let (name, given) = words.split_first().ok_or_else(|| Failure::call(HELP.trim_end()))?;
     let name = name.to_string_lossy();
-    match name.as_ref() {
-        "help" | "--help" | "-h" => return print(HELP),
-        "--version" | "-V" => return print(&format!("jivaszte {}\n", env!("CARGO_PKG_VERSION"))),
+    match (name.as_ref(), given) {
+        ("help" | "--help" | "-h", []) => return print(HELP),
+        ("help" | "--help" | "-h", [of]) => return print(command(&of.to_string_lossy())?.2),
+        ("help" | "--help" | "-h", _) => return Err(Failure::call("help takes one command")),
+        ("--version" | "-V", []) => {
+            return print(&format!("jivaszte {}\n", env!("CARGO_PKG_VERSION")))
+        }
+        ("--version" | "-V", [more, ..]) => {
+            let more = quoted(&more.to_string_lossy());
+            return Err(Failure::call(format!("{name} stands alone, without `{more}`")));
+        }
         _ => {}
     }
-    let found = COMMANDS.iter().find(|(command, ..)| *command == name);
-    let (name, letters, command) = found.ok_or_else(|| {
-        Failure::call(format!("`{name}` is no command of jivaszte: `jivaszte help` lists them"))
-    })?;
+    let (name, letters, help, run) = command(&name)?;
     let arguments = Arguments::read(name, given, letters)?;
     match arguments.help {
-        true => print(HELP),
-        false => command(&arguments),
+        true => print(help),
+        false => run(&arguments),
     }
+}
+
+fn command(name: &str) -> Outcome<&'static Command> {
+    let found = COMMANDS.iter().find(|(command, ..)| *command == name);
+    found.ok_or_else(|| {
+        let name = quoted(name);
+        Failure::call(format!("`{name}` is no command of jivaszte: `jivaszte help` lists them"))
+    })
 }

@@ -9,6 +9,16 @@ use crate::sounding;
 use crate::text::{asked, FORMS};
 use crate::tuning::DEFAULT_RATE;
 
+/// How far a pitch is off; what would be written as 0.00 cents is in tune.
+fn off(cents: f64) -> String {
+    let size = format!("{:.2}", cents.abs());
+    match (size.as_str(), cents < 0.0) {
+        ("0.00", _) => String::from("in tune"),
+        (_, true) => format!("{size} cents flat"),
+        (_, false) => format!("{size} cents sharp"),
+    }
+}
+
 pub fn run(arguments: &Arguments) -> Outcome {
     let words: Vec<_> = arguments.words.iter().map(|word| word.to_string_lossy()).collect();
     if words.is_empty() {
@@ -21,11 +31,10 @@ pub fn run(arguments: &Arguments) -> Outcome {
     let sounds =
         sounding::hertz(order, rate, tuning).map_err(|refusal| Failure::input(message(refusal)))?;
     let cents = cents_above(sounds, hertz);
-    let side = if cents < 0.0 { "flat" } else { "sharp" };
     print(&format!(
-        "L {} d {}\nasked {hertz:.3} Hz, sounds {sounds:.3} Hz: {:.2} cents {side}\n",
+        "L {} d {}\nasked {hertz:.3} Hz, sounds {sounds:.3} Hz: {}\n",
         tuning.length,
         tuning.delay,
-        cents.abs()
+        off(cents)
     ))
 }

@@ -4,6 +4,7 @@ use crate::arguments::Arguments;
 use crate::failure::{Failure, Outcome};
 use crate::files;
 use crate::page::page;
+use crate::say::say;
 
 pub fn run(arguments: &Arguments) -> Outcome {
     if !arguments.words.is_empty() {
@@ -11,6 +12,6 @@ pub fn run(arguments: &Arguments) -> Outcome {
     }
     let output = arguments.output("page", "PAGE.html")?;
     files::write(&output, page()?.as_bytes())?;
-    eprintln!("{}: a page for a browser, which fetches nothing", files::output_name(&output));
+    say(&format!("{}: a page for a browser, which fetches nothing", files::output_name(&output)));
     Ok(())
 }

@@ -5,6 +5,7 @@ use crate::failure::Outcome;
 use crate::files;
 use crate::number::duration;
 use crate::plot::{draw, greatest, in_words, Take};
+use crate::say::say;
 use crate::text::Instead;
 use crate::tune::Tune;
 use std::path::Path;
@@ -13,6 +14,7 @@ pub fn run(arguments: &Arguments) -> Outcome {
     let file = arguments.file("plot", "a score")?;
     let output = arguments.output("plot", "TAKE.svg")?;
     files::refuse_same(file, &output)?;
+    files::refuse_form(&output, "SVG")?;
     let (rate, advances) = (arguments.rate()?, arguments.advances()?);
     let bytes = files::read(file)?;
     let takes = advances.iter().map(|&advance| {
@@ -42,10 +44,11 @@ fn report(output: &Path, take: &Take) {
     let (plucks, changes) = (take.timeline.plucks.len(), take.timeline.changes.len());
     let length = duration(take.samples.len(), take.rate);
     let name = files::output_name(output);
-    eprintln!("{name}: {length}; plucks {plucks}, changes {changes}, Na {}", take.timeline.advance);
+    let advance = take.timeline.advance;
+    say(&format!("{name}: {length}; plucks {plucks}, changes {changes}, Na {advance}"));
     if let Some(distances) = &take.distances {
         let most = greatest(distances);
         let (measured, proved) = (in_words(most.measured), in_words(most.proved));
-        eprintln!("off the ideal by at most {measured}; proved: {proved}");
+        say(&format!("off the ideal by at most {measured}; proved: {proved}"));
     }
 }

@@ -7,10 +7,12 @@ use super::slide::Slide;
 use super::tunings;
 use super::values::{Instead, Settings};
 use crate::decimal::Decimal;
-use crate::number::counted;
+use crate::number::{counted, grouped};
 use crate::score::{Change, Header, Record};
 use crate::tuning::Tuning;
 
+/// A score has at most so many records, which are at most 60 MiB of bytes.
+const MOST_RECORDS: u64 = 1 << 22;
 /// What the lines after a faulty `tune` are read with.
 const ANY_TUNING: Tuning = Tuning { length: 1, delay: 4_096 };
 
@@ -80,7 +82,7 @@ impl Compiler {
         let value = line.next("beats a minute")?;
         let tempo = Decimal::parse(value.text).filter(|tempo| !tempo.is_zero());
         self.settings.tempo = tempo.or(self.settings.tempo);
-        let wrong = || format!("`{}` is no {}, in beats a minute", value.text, word.text);
+        let wrong = || format!("`{value}` is no {word}, in beats a minute");
         tempo.map(|_| ()).ok_or_else(|| value.fault(wrong()))
     }
 
@@ -116,9 +118,13 @@ impl Compiler {
     }
 
     /// Adds a record that waits; a wait of more than 65,535 samples takes records of its own.
-    fn push(&mut self, wait: Option<u64>, mut record: Record, origin: Origin) {
+    fn push(&mut self, wait: Option<u64>, mut record: Record, origin: Origin) -> Result<(), Fault> {
         let longest = u64::from(u16::MAX);
         let mut rest = wait.unwrap_or(0);
+        if self.records.len() as u64 + rest / longest >= MOST_RECORDS {
+            let most = grouped(MOST_RECORDS);
+            return Err(Fault::new(origin.start, format!("a score has at most {most} records")));
+        }
         self.now += rest;
         while rest > longest {
             self.records.push(Record { wait: Some(u16::MAX), ..Record::default() });
@@ -133,12 +139,12 @@ impl Compiler {
         }
         self.records.push(record);
         self.origins.push(origin);
+        Ok(())
     }
 
     fn event(&mut self, start: Spot, line: &mut Line) -> Result<(), Fault> {
         let Event { wait, record, change, pluck } = Event::read(line, &self.settings)?;
-        self.push(wait, record, Origin { start, change, pluck });
-        Ok(())
+        self.push(wait, record, Origin { start, change, pluck })
     }
 
     fn slide(&mut self, word: &Word, line: &mut Line) -> Result<(), Fault> {
@@ -152,7 +158,7 @@ impl Compiler {
         let origin = Origin { start: word.spot, change: word.spot, pluck: word.spot };
         for (wait, change) in calls {
             let record = Record { change, ..Record::default() };
-            self.push(Some(wait).filter(|&wait| wait > 0), record, origin);
+            self.push(Some(wait).filter(|&wait| wait > 0), record, origin)?;
         }
         Ok(())
     }

@@ -1,6 +1,6 @@
 //! An event line: one record, as a list of what it does, in the order in which it does it.
 
-use super::line::{Fault, Line, Spot};
+use super::line::{Fault, Line, Spot, Word};
 use super::tunings;
 use super::values::{self, Settings};
 use crate::score::{Change, Pluck, Record};
@@ -29,10 +29,10 @@ impl Event {
         loop {
             let word = line.next("an event")?;
             let found = EVENTS.iter().position(|words| words.contains(&word.text));
-            let kind = found.ok_or_else(|| word.fault(unknown(word.text)))?;
+            let kind = found.ok_or_else(|| word.fault(unknown(&word)))?;
             if kind < allowed {
                 let order = "in one line come wait, loss, to or jump, and pluck, in this order";
-                return Err(word.fault(format!("`{}` is too late here: {order}", word.text)));
+                return Err(word.fault(format!("`{word}` is too late here: {order}")));
             }
             allowed = kind + 1;
             match kind {
@@ -72,9 +72,9 @@ impl Event {
     }
 }
 
-fn unknown(word: &str) -> String {
+fn unknown(word: &Word) -> String {
     let events = "wait, pluck, to, jump, slide, loss, tempo or nothing";
-    match word {
+    match word.text {
         "slide" | "tempo" | "nothing" => format!("`{word}` needs a line of its own"),
         _ => format!("`{word}` is no event: {events}"),
     }

@@ -1,5 +1,8 @@
 //! A line of text: its words, each with its column, read one after the other.
 
+use crate::say::quoted;
+use std::fmt;
+
 /// A place in a text; both count from 1, columns in characters.
 #[derive(Clone, Copy, Debug, Default, PartialEq, Eq)]
 pub struct Spot {
@@ -24,6 +27,13 @@ impl Fault {
 pub struct Word<'a> {
     pub text: &'a str,
     pub spot: Spot,
+}
+
+/// As messages quote it.
+impl fmt::Display for Word<'_> {
+    fn fmt(&self, f: &mut fmt::Formatter) -> fmt::Result {
+        f.write_str(&quoted(self.text))
+    }
 }
 
 impl Word<'_> {
@@ -70,14 +80,14 @@ impl<'a> Line<'a> {
         let word = self.next(&format!("`{text}`"))?;
         match word.text == text {
             true => Ok(()),
-            false => Err(word.fault(format!("`{text}` must stand here, not `{}`", word.text))),
+            false => Err(word.fault(format!("`{text}` must stand here, not `{word}`"))),
         }
     }
 
     /// The line must end here.
     pub fn finish(&mut self) -> Result<(), Fault> {
         match self.words.next() {
-            Some(word) => Err(word.fault(format!("`{}` is too much here", word.text))),
+            Some(word) => Err(word.fault(format!("`{word}` is too much here"))),
             None => Ok(()),
         }
     }

@@ -16,13 +16,13 @@ const DELAYS: &str = "2049 to 6144 in order 1, and 4096 more for each further or
 pub fn pitch<'a>(line: &mut Line<'a>) -> Result<(Word<'a>, Pitch), Fault> {
     let word = line.next("a note")?;
     let Some((number, unit)) = Decimal::prefix(word.text) else {
-        let unknown = || word.fault(format!("no note is called {}", word.text));
+        let unknown = || word.fault(format!("no note is called {word}"));
         return Ok((word, Pitch::named(word.text).ok_or_else(unknown)?));
     };
     let unit = if unit.is_empty() { line.next("`Hz`")?.text } else { unit };
     match unit.eq_ignore_ascii_case("Hz") && !number.is_zero() {
         true => Ok((word, Pitch::Hertz(number))),
-        false => Err(word.fault(format!("`{}` is no pitch: {FORMS}", word.text))),
+        false => Err(word.fault(format!("`{word}` is no pitch: {FORMS}"))),
     }
 }
 
@@ -41,10 +41,10 @@ pub fn parts(line: &mut Line, settings: &Settings) -> Result<(Option<u16>, Optio
 
 /// A pitch that the voice does not have, or an order that there is not.
 fn refused(refusal: Refusal, word: &Word, settings: &Settings) -> Fault {
-    let (note, rate, words) = (word.text, settings.rate, message(refusal));
+    let (rate, words) = (settings.rate, message(refusal));
     match (refusal, settings.order_spot) {
         (Refusal::Order, Some(spot)) => Fault::new(spot, words),
-        _ => word.fault(format!("{note} is out of reach at {rate} samples a second: {words}")),
+        _ => word.fault(format!("{word} is out of reach at {rate} samples a second: {words}")),
     }
 }
 

@@ -3,6 +3,7 @@
 use super::line::{Fault, Line, Spot};
 use crate::decimal::Decimal;
 use crate::number::grouped;
+use crate::say::quoted;
 
 /// The longest time, in samples.
 const LONGEST: u64 = u32::MAX as u64;
@@ -32,7 +33,7 @@ pub fn whole(line: &mut Line, what: &str, limits: &str, most: u64) -> Result<u64
     let number = Decimal::parse(word.text).and_then(Decimal::whole);
     number
         .filter(|&number| number <= most)
-        .ok_or_else(|| word.fault(format!("`{}` is not {what}, {limits}", word.text)))
+        .ok_or_else(|| word.fault(format!("`{word}` is not {what}, {limits}")))
 }
 
 /// A number that a record or the header keeps in 16 bits.
@@ -44,7 +45,7 @@ pub fn field(line: &mut Line, what: &str, limits: &str) -> Result<u16, Fault> {
 pub fn time(line: &mut Line, settings: &Settings) -> Result<u64, Fault> {
     let word = line.next("a time")?;
     let number = Decimal::prefix(word.text);
-    let (number, unit) = number.ok_or_else(|| word.fault(format!("`{}` is no time", word.text)))?;
+    let (number, unit) = number.ok_or_else(|| word.fault(format!("`{word}` is no time")))?;
     let unit = if unit.is_empty() { line.next("s, ms, samples or beats")?.text } else { unit };
     let rate = u64::from(settings.rate);
     let samples = match unit {
@@ -59,7 +60,8 @@ pub fn time(line: &mut Line, settings: &Settings) -> Result<u64, Fault> {
             None => return Err(word.fault("beats need a line `tempo 96` before them")),
         },
         _ => {
-            return Err(word.fault(format!("`{unit}` is no unit of time: s, ms, samples or beats")))
+            return Err(word
+                .fault(format!("`{}` is no unit of time: s, ms, samples or beats", quoted(unit))))
         }
     };
     u64::try_from(samples)
@@ -76,7 +78,7 @@ pub fn loss(line: &mut Line) -> Result<u16, Fault> {
         Some(_) => number.and_then(Decimal::whole).filter(|&units| units < ONE).map(u128::from),
         None => number.map(|number| number.times(ONE, 1)).filter(|&units| units <= ONE.into()),
     };
-    units.map(|units| units.min(u128::from(ONE) - 1) as u16).ok_or_else(|| {
-        word.fault(format!("`{}` is no loss: 0 to 1, or 0 to 65535 `units`", word.text))
-    })
+    units
+        .map(|units| units.min(u128::from(ONE) - 1) as u16)
+        .ok_or_else(|| word.fault(format!("`{word}` is no loss: 0 to 1, or 0 to 65535 `units`")))
 }

@@ -1,4 +1,4 @@
-//! Numbers from a seed, for random scores and texts.
+//! Numbers from a seed, for random scores and texts; folders for files.
 #![allow(dead_code)] // a test takes what it needs of it
 
 /// SplitMix64.
@@ -29,5 +29,30 @@ impl Random {
 
     pub fn pick<'a, T: ?Sized>(&mut self, choices: &[&'a T]) -> &'a T {
         choices[self.below(choices.len() as u64) as usize]
+    }
+}
+
+/// A folder of a test's own, which is removed when it is dropped.
+pub struct Folder(std::path::PathBuf);
+
+impl Folder {
+    pub fn new(name: &str) -> Folder {
+        let path = std::path::Path::new(env!("CARGO_TARGET_TMPDIR")).join(name);
+        let _ = std::fs::remove_dir_all(&path);
+        std::fs::create_dir_all(&path).unwrap();
+        Folder(path)
+    }
+}
+
+impl std::ops::Deref for Folder {
+    type Target = std::path::Path;
+    fn deref(&self) -> &std::path::Path {
+        &self.0
+    }
+}
+
+impl Drop for Folder {
+    fn drop(&mut self) {
+        let _ = std::fs::remove_dir_all(&self.0);
     }
 }
