@@ -101,8 +101,11 @@ some-call r v e = loss-first (ℕ-discrete (stands r 3) 0)
         → (stands r 3 ≡ 0) × (stands r 1 + stands r 2 ≡ 0) × (stands r 4 ≡ 0)
     pluck-last i j (yes k) = (i, j, k)
     pluck-last i j (no f) =
-        absurd (not-none (rw (eq-eqb (stands r 3) 0 i, eq-eqb (stands r 1 + stands r 2) 0 j,
-          ne-eqb (stands r 4) 0 f) at e))
+        absurd (not-none (rw (
+          eq-eqb (stands r 3) 0 i,
+          eq-eqb (stands r 1 + stands r 2) 0 j,
+          ne-eqb (stands r 4) 0 f,
+        ) at e))
 
     change-next : stands r 3 ≡ 0 → Dec (stands r 1 + stands r 2 ≡ 0)
         → (stands r 3 ≡ 0) × (stands r 1 + stands r 2 ≡ 0) × (stands r 4 ≡ 0)

@@ -14,8 +14,19 @@ downward u m h =
 
 clip-only : (u z : ℤ) → natAbs z ≤ M → natAbs (u -ℤ z) ≤ natAbs (u -ℤ clip u) → z ≡ clip u
 clip-only u z h k =
-    omega (Zs, clipv u, onev u, onev z, absv z, absv (u -ℤ z), absv (u -ℤ clip u), -v u z, -v u (clip u),
-      onev (u -ℤ z), onev (u -ℤ clip u))
+    omega (
+      Zs,
+      clipv u,
+      onev u,
+      onev z,
+      absv z,
+      absv (u -ℤ z),
+      absv (u -ℤ clip u),
+      -v u z,
+      -v u (clip u),
+      onev (u -ℤ z),
+      onev (u -ℤ clip u),
+    )
 
 pub theorems : Theorems
 unfolding floor clip
