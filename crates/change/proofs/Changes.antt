@@ -8,6 +8,7 @@ use Prim.Native.Nat.{ℕ}
 use native.Mathlib.Omega.{arith}
 use borrow.Author.Tests.{eq-eqb, ne-eqb}
 use lib.IntN.{ℤ}
+use lib.ListN.{length}
 use Rattle.integer.specs.Rounding.{M}
 use Rattle.allpass.specs.Allpass as Allpass
 use Rattle.allpass.specs.Allpass.{run}
@@ -41,14 +42,16 @@ module _ (v : Voice) (w : Rule.Waiting) where
   unfolding settled
   settled-later e = rw e
 
-module _ (v : Voice) (to : Rule.Tuning) where
-  pub count-refused : {n : ℕ} → n ≡ number v (instant to) → (n ≡ 0 → ⊥) → 0 ≡ count v (instant to)
+module _ (v : Voice) (r : ℕ → ℤ) (to : Rule.Tuning) where
+  pub count-refused : {n : ℕ} → n ≡ number v (instant to) → (n ≡ 0 → ⊥) → 0 ≡ count v r (instant to)
   unfolding count
   count-refused e f = rw (ne-eqb (number v (instant to)) 0 (λ z. f (e ∙ z)))
 
-  pub count-accepted : {n : ℕ} → n ≡ number v (instant to) → n ≡ 0 → v .Na ≡ count v (instant to)
+  -- as many as were run
+  pub count-accepted : {n k : ℕ} → n ≡ number v (instant to) → n ≡ 0
+      → k ≡ length (window r (to .L) (v .Na)) → k ≡ count v r (instant to)
   unfolding count
-  count-accepted e z = rw (eq-eqb (number v (instant to)) 0 (sym e ∙ z))
+  count-accepted e z i = i ∙ rw (eq-eqb (number v (instant to)) 0 (sym e ∙ z))
 
 -- ---- in the structs of the code
 module _ {h : Head} {N L d : ℕ} {e : Filter} (k : Fit h) (r : Rests N L d e) where

@@ -2,6 +2,7 @@
 // An eliminator starts at rest; an instant one is run over samples that the line still holds.
 ghost use mathlib.Core.Path.{_≡_};
 ghost use Prim.Native.Nat.{_≤_, _<_};
+ghost use lib.ListN.{length};
 ghost use Rattle.integer.specs.Rounding.{M};
 ghost use Rattle.allpass.specs.Bounds.{Within};
 ghost use Rattle.rule.specs.Calls.{prepare as Prepare, announce as Announce, ask as Ask};
@@ -34,6 +35,12 @@ pub mod asked;
 // What an instant change returns: count is the number of samples that its eliminator was run over.
 pub struct Changed {
     pub answer: Answer,
+    pub count: u32,
+}
+
+// What a run over stored samples left: the eliminator, and how many samples it took.
+pub struct Run {
+    pub filter: Filter,
     pub count: u32,
 }
 
@@ -118,19 +125,26 @@ pub fn ask(head: Head, order: u32, length: u32, delay: u32) -> Answer
     prepare(head, Kind::Asked, order, length, delay)
 }
 
-// The eliminator f after the last reads of the line, as many as the advance.
-fn prepared(line: &[i32; 2112], f: Filter, at: usize, advance: u32) -> Filter
+// Runs the eliminator f over the last reads of the line, as many as the advance, and counts them.
+fn prepared(line: &[i32; 2112], f: Filter, at: usize, advance: u32) -> Run
     requires { ⌜ Tuned f × (at < 2112) × (advance ≤ 64) × Within M (ring at (now line)) ⌝ }
-    ensures { λ r. ⌜ Ran f (window (back (ring at (now (line .entry)))) (f .tuning .length) advance) r ⌝ }
+    ensures { λ r. ⌜ Ran f (window (back (ring at (now (line .entry)))) (f .tuning .length) advance) (r .filter) ⌝ }
+    ensures { λ r. ⌜ r .count
+        ≡ length (window (back (ring at (now (line .entry)))) (f .tuning .length) advance) ⌝ }
 {
     let mut p = f;
     let mut left = advance;
+    let mut count = 0;
     while 0 < left {
         let x = line::read(line, at, (f.tuning.length + left) as usize);
         p = moved(p, x);
         left = left - 1;
+        count = count + 1;
     }
-    p
+    Run {
+        filter: p,
+        count: count,
+    }
 }
 
 // Changes at once, from an eliminator that is run first over as many samples as the advance.
@@ -138,7 +152,8 @@ pub fn instant(line: &[i32; 2112], head: Head, order: u32, length: u32, delay: u
     requires { ⌜ Valid head (now line) ⌝ }
     ensures { λ r. ⌜ On head (now (line .entry)) (Instant (tuning order length delay)) (r .answer)
         (now (line .entry)) ⌝ }
-    ensures { λ r. ⌜ r .count ≡ Count (voiceOf head) (Instant (tuning order length delay)) ⌝ }
+    ensures { λ r. ⌜ r .count ≡ Count (voiceOf head) (back (ring (head .at) (now (line .entry))))
+        (Instant (tuning order length delay)) ⌝ }
 {
     let code = refused(head, order, length, delay);
     if code != 0 {
@@ -152,13 +167,14 @@ pub fn instant(line: &[i32; 2112], head: Head, order: u32, length: u32, delay: u
         };
     }
     let e = resting(order, length, delay);
-    let p = prepared(line, e, head.at, head.advance);
+    let run = prepared(line, e, head.at, head.advance);
+    let p = run.filter;
     let a = Answer {
         refusal: 0,
         head: with(head, p, Waiting::Idle),
     };
     Changed {
         answer: a,
-        count: head.advance,
+        count: run.count,
     }
 }

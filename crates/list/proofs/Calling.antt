@@ -9,8 +9,9 @@ use borrow.Author.Tests.{ne-eqb}
 use lib.Dec.{eqb}
 use lib.IntN.{ℤ}
 use lib.ListN.{length, take, drop, take-append-drop}
+use Rattle.line.specs.Ring.{ring}
 use Rattle.rule.specs.Calls.{Call, commit, withdraw, inputs, number, count}
-use Rattle.rule.specs.State.{State, told, blockOut, put}
+use Rattle.rule.specs.State.{State, back, told, blockOut, put}
 use Rattle.rule.specs.Voice.{Voice}
 use Rattle.rule.proofs.Puts.{put-none}
 use Rattle.voice.specs.declared.Head.{Head}
@@ -47,7 +48,7 @@ instantly h l a b c r e f =
 
 -- what was made of a call that counts nothing
 pub uncounted : {h : Head} {l : List ℤ} {c : Call} {a : Answer} {r : Changed} → On h l c a l
-    → (r .answer ≡ a) × (r .count ≡ 0) → count (voiceOf h) c ≡ 0 → Makes h l c r
+    → (r .answer ≡ a) × (r .count ≡ 0) → count (voiceOf h) (back (ring (h .at) l)) c ≡ 0 → Makes h l c r
 uncounted {h} {l} {c} o e z = record {
   made = subst (λ (x : Answer). On h l c x l) (sym (e .0)) o;
   count = e .1 ∙ sym z;
@@ -66,24 +67,24 @@ ending kind a b c xs h =
       ne-eqb kind 5 (λ e. omega arith),
     )
 
-ended-counts : (v : Voice) (b : Bool) → count v (cond b commit withdraw) ≡ 0
+ended-counts : (v : Voice) (q : ℕ → ℤ) (b : Bool) → count v q (cond b commit withdraw) ≡ 0
 unfolding count
-ended-counts v true = refl
-ended-counts v false = refl
+ended-counts v q true = refl
+ended-counts v q false = refl
 
 -- a call of another kind than 4 counts nothing
-pub counts-none : (v : Voice) (kind a b c : ℕ) (xs : List ℤ) → (kind ≡ 4 → ⊥)
-    → count v (called kind a b c xs) ≡ 0
+pub counts-none : (v : Voice) (q : ℕ → ℤ) (kind a b c : ℕ) (xs : List ℤ) → (kind ≡ 4 → ⊥)
+    → count v q (called kind a b c xs) ≡ 0
 unfolding count
-counts-none v zero a b c xs h = refl
-counts-none v (suc zero) a b c xs h = refl
-counts-none v (suc (suc zero)) a b c xs h = refl
-counts-none v (suc (suc (suc zero))) a b c xs h = refl
-counts-none v (suc (suc (suc (suc zero)))) a b c xs h = absurd (h refl)
-counts-none v (suc (suc (suc (suc (suc zero))))) a b c xs h = refl
-counts-none v (suc (suc (suc (suc (suc (suc n)))))) a b c xs h =
+counts-none v q zero a b c xs h = refl
+counts-none v q (suc zero) a b c xs h = refl
+counts-none v q (suc (suc zero)) a b c xs h = refl
+counts-none v q (suc (suc (suc zero))) a b c xs h = refl
+counts-none v q (suc (suc (suc (suc zero)))) a b c xs h = absurd (h refl)
+counts-none v q (suc (suc (suc (suc (suc zero))))) a b c xs h = refl
+counts-none v q (suc (suc (suc (suc (suc (suc n)))))) a b c xs h =
     let k = suc (suc (suc (suc (suc (suc n))))) in
-    subst (λ (f : Call). count v f ≡ 0) (ending k a b c xs (omega arith)) (ended-counts v (eqb k 6))
+    subst (λ (f : Call). count v q f ≡ 0) (ending k a b c xs (omega arith)) (ended-counts v q (eqb k 6))
 
 pub over-still : (v : State) (kind a b c : ℕ) (xs before : List ℤ) → 0 < kind → kind ≤ last-kind
     → before ≡ over (put v (called kind a b c xs)) before

@@ -8,8 +8,10 @@ use lib.Dec.{eqb}
 use lib.IntN.{ℤ}
 use lib.ListN.{length}
 use borrow.Author.Tests.{eqb-false}
-use Rattle.rule.specs.Calls.{Call, Opening, block, instant, number}
-use Rattle.rule.specs.State.{State, fresh, call, put, from, puts, numbers}
+use Rattle.line.specs.Ring.{ring}
+use Rattle.rule.specs.Voice.{Voice}
+use Rattle.rule.specs.Calls.{Call, Opening, block, instant, number, count}
+use Rattle.rule.specs.State.{State, back, fresh, call, put, from, puts, numbers, counts}
 use Rattle.rule.specs.Click.{ClickFigure}
 use Rattle.rule.specs.OwnFigure.{OwnClickFigure}
 use Rattle.rule.proofs.Refusals.{refuses}
@@ -26,19 +28,22 @@ use Rattle.open.specs.Opened.{Opens}
 use Rattle.list.specs.Chain.{heard, Chain, none, called, changed, rendered, Chained}
 
 -- what the calls cs do from the head h and the line l, as the list of them does from that voice
-record Follows (h : Head) (l : List ℤ) (cs : List Call) (ns : List ℕ) (ys : List ℤ) (g : Head) (k : List ℤ)
+record Follows (h : Head) (l : List ℤ) (cs : List Call) (ns ks : List ℕ) (ys : List ℤ) (g : Head) (k : List ℤ)
     : Type 0 where
   codes : ns ≡ numbers (stateOf h l) cs
+  runs : ks ≡ counts (stateOf h l) cs
   samples : ys ≡ puts (stateOf h l) cs
   state : stateOf g k ≡ from (stateOf h l) cs
   valid : Valid g k
 
 -- one more call in front, which puts out zs
-before : {h g : Head} {l m k : List ℤ} {c : Call} {cs : List Call} {ns : List ℕ} {zs ys : List ℤ} {a : Answer}
-    → On h l c a m → zs ≡ put (stateOf h l) c → Follows (a .head) m cs ns ys g k
-    → Follows h l (c ∷ cs) (a .refusal ∷ ns) (zs ++ ys) g k
-before {h} {l = l} {c = c} {cs} e i f = record {
+before : {h g : Head} {l m k : List ℤ} {c : Call} {cs : List Call} {ns ks : List ℕ} {zs ys : List ℤ} {a : Answer}
+    {n : ℕ} → On h l c a m → n ≡ count (voiceOf h) (back (ring (h .at) l)) c → zs ≡ put (stateOf h l) c
+    → Follows (a .head) m cs ns ks ys g k
+    → Follows h l (c ∷ cs) (a .refusal ∷ ns) (n ∷ ks) (zs ++ ys) g k
+before {h} {l = l} {c = c} {cs} e j i f = record {
   codes = cc (f .codes, e .number, ap (λ (v : State). numbers v cs) (e .state));
+  runs = cc (f .runs, j, ap (λ (v : State). counts v cs) (e .state));
   samples = cc (f .samples, i, ap (λ (v : State). puts v cs) (e .state));
   state = f .state ∙ ap (λ (v : State). from v cs) (e .state);
   valid = f .valid;
@@ -55,25 +60,34 @@ heard-is {h} {l} {c = c} lends e i =
     go true z = refl
     go false z = sym (refuses .unchanged (stateOf h l) c (eqb-false (number (voiceOf h) c) 0 z) .1)
 
-follows : {h g : Head} {l k : List ℤ} {cs : List Call} {ns : List ℕ} {ys : List ℤ} → Valid h l
-    → Chain h l cs ns ys g k → Follows h l cs ns ys g k
-follows v none = record { codes = refl; samples = refl; state = refl; valid = v }
-follows {h} {l = l} v (called {c = c} still e k) =
-    let o = on l e (v .line) in
-    before o (sym (put-none (stateOf h l) c still)) (follows (o .valid) k)
-follows {h} {l = l} v (changed {to = to} e k) =
-    before e (sym (put-none (stateOf h l) (instant to) refl)) (follows (e .valid) k)
-follows {h} {l = l} v (rendered xs over e i k) =
-    before e (heard-is over e i) (follows (e .valid) k)
+-- a block has no count
+block-counts : (v : Voice) (r : ℕ → ℤ) (xs : List ℤ) (n : ℕ) → 0 ≡ count v r (block xs n)
+unfolding count
+block-counts v r xs n = refl
 
-pub chained : (o : Opening) (r : Opened) → Opens o r → {g : Head} {k : List ℤ} {cs : List Call} {ns : List ℕ}
-    {ys : List ℤ} → Chain (r .voice .head) (r .voice .line) cs ns ys g k → Chained o cs ns ys g k
+follows : {h g : Head} {l k : List ℤ} {cs : List Call} {ns ks : List ℕ} {ys : List ℤ} → Valid h l
+    → Chain h l cs ns ks ys g k → Follows h l cs ns ks ys g k
+follows v none = record { codes = refl; runs = refl; samples = refl; state = refl; valid = v }
+follows {h} {l = l} v (called {c = c} still z e k) =
+    let o = on l e (v .line) in
+    before o (sym (z (voiceOf h) (back (ring (h .at) l)))) (sym (put-none (stateOf h l) c still))
+    (follows (o .valid) k)
+follows {h} {l = l} v (changed {to = to} e k) =
+    before (e .made) (e .count) (sym (put-none (stateOf h l) (instant to) refl)) (follows (e .made .valid) k)
+follows {h} {l = l} v (rendered xs over e i k) =
+    before e (block-counts (voiceOf h) (back (ring (h .at) l)) xs (length over)) (heard-is over e i)
+    (follows (e .valid) k)
+
+pub chained : (o : Opening) (r : Opened) → Opens o r → {g : Head} {k : List ℤ} {cs : List Call}
+    {ns ks : List ℕ} {ys : List ℤ} → Chain (r .voice .head) (r .voice .line) cs ns ks ys g k
+    → Chained o cs ns ks ys g k
 chained o r p {cs = cs} c =
     let f = follows (p .valid) c in
     let e = p .state in
     let i = f .samples ∙ ap (λ (v : State). puts v cs) e in
     record {
       codes = f .codes ∙ ap (λ (v : State). numbers v cs) e;
+      runs = f .runs ∙ ap (λ (v : State). counts v cs) e;
       samples = i;
       state = f .state ∙ ap (λ (v : State). from v cs) e;
       valid = f .valid;

@@ -9,5 +9,4 @@ pub mod Running
 pub mod Turn
 pub mod Whole
 pub mod Live
-mod LiveInstance
 pub mod Silence

@@ -86,7 +86,7 @@ module _ (o : Opening) (before : List ℤ) (places : List ℕ) where
       }
 
 pub chains : (o : Opening) → Chains o
-chains o pre to mid post h ns ms ys us g f k l c d =
+chains o pre to mid post h ns ms ks js ys us g f k l c d =
     let e = lives o pre to mid h post in
     record {
       samples = c .samples ∙ e .outputs ∙ sym (d .samples);
@@ -95,4 +95,8 @@ chains o pre to mid post h ns ms ys us g f k l c d =
           ap (without (length pre)) (c .codes)
           ∙ e .codes
           ∙ ap (without (length (pre ++ mid))) (sym (d .codes));
+      runs =
+          ap (without (length pre)) (c .runs)
+          ∙ e .runs
+          ∙ ap (without (length (pre ++ mid))) (sym (d .runs));
     }

@@ -41,16 +41,17 @@ Equals o before places =
     → Equal r q ys us ns ms (length pre) (length (pre ++ mid))
 
 -- ---- the calls, made one after the other by a caller
--- equal samples, equal voices, line and all, and equal numbers but for those at the places i and n
-pub record Heard (ys us : List ℤ) (g h : Head) (k l : List ℤ) (ns ms : List ℕ) (i n : ℕ) : Type 0 where
+-- equal samples, equal voices, line and all, and equal numbers and counts but for those at the places i and n
+pub record Heard (ys us : List ℤ) (g h : Head) (k l : List ℤ) (ns ms ks js : List ℕ) (i n : ℕ) : Type 0 where
   pub samples : ys ≡ us
   pub voices : stateOf g k ≡ stateOf h l
   pub codes : without i ns ≡ without n ms
+  pub runs : without i ks ≡ without n js
 
 abbrev pub Chains : Opening → Type 0
 Chains o =
     (pre : List Call) (to : Tuning) (mid post : List Call) → Ahead o pre to mid
-    → (ns ms : List ℕ) (ys us : List ℤ) (g h : Head) (k l : List ℤ)
-    → Chained o (announcing o pre to mid post) ns ys g k
-    → Chained o (living o pre to mid post) ms us h l
-    → Heard ys us g h k l ns ms (length pre) (length (pre ++ mid))
+    → (ns ms ks js : List ℕ) (ys us : List ℤ) (g h : Head) (k l : List ℤ)
+    → Chained o (announcing o pre to mid post) ns ks ys g k
+    → Chained o (living o pre to mid post) ms js us h l
+    → Heard ys us g h k l ns ms ks js (length pre) (length (pre ++ mid))

@@ -5,7 +5,7 @@ ghost use mathlib.Core.Bool.{cond};
 ghost use Prim.Native.Nat.{_+_, _≤_, _<_};
 ghost use lib.Dec.{eqb};
 ghost use lib.ListN.{length, getD};
-ghost use Rattle.list.specs.Words.{takes as Takes, lends as Lends, fits as Fits, formed as Formed};
+ghost use Rattle.list.specs.Words.{takes as takesOf, lends as Lends, fits as fitsOf, formed as Formed};
 
 // An item of a list is a call: its four words, a kind and three numbers, with how many samples it takes from
 // the input and how long an output it lends.
@@ -48,7 +48,7 @@ pub fn item_at(words: &[u32], at: usize) -> Item
         × (r .a ≡ getD (now (words .entry)) (at + 1) 0)
         × (r .b ≡ getD (now (words .entry)) (at + 2) 0)
         × (r .c ≡ getD (now (words .entry)) (at + 3) 0)
-        × (r .takes ≡ Takes (r .kind) (r .a))
+        × (r .takes ≡ takesOf (r .kind) (r .a))
         × (r .lends ≡ Lends (r .kind) (r .b)) ⌝ }
 {
     let kind = word(words, at);
@@ -73,7 +73,7 @@ fn fits(
     outputs: usize,
     numbers: usize,
 ) -> bool
-    ensures { λ r. ⌜ r ≡ Fits kind takes lends inputs outputs numbers ⌝ }
+    ensures { λ r. ⌜ r ≡ fitsOf kind takes lends inputs outputs numbers ⌝ }
 {
     if LAST_KIND < kind {
         return false;

@@ -3,7 +3,7 @@
 ghost use mathlib.Core.Path.{_≡_};
 ghost use Rattle.refusal.specs.Limits.{refusal};
 ghost use Rattle.refusal.specs.Returned.{AllKept};
-ghost use Rattle.rule.specs.Calls.{openLimits, resting as Resting};
+ghost use Rattle.rule.specs.Calls.{openLimits, resting as restingVoice};
 ghost use Rattle.rule.specs.State.{silence};
 ghost use Rattle.voice.specs.Struct.{stateOf};
 ghost use Rattle.voice.specs.Valid.{Valid};
@@ -43,7 +43,7 @@ fn fresh(order: u32, length: u32, delay: u32, loss: u32, advance: u32) -> Voice
     requires { ⌜ AllKept
         (openLimits (record { N = order; L = length; d = delay; G = loss; Na = advance })) ⌝ }
     ensures { λ r. ⌜ stateOf (r .head) (r .line) ≡ record {
-      voice = Resting (record { N = order; L = length; d = delay }) loss advance;
+      voice = restingVoice (record { N = order; L = length; d = delay }) loss advance;
       line = silence;
     } ⌝ }
     ensures { λ r. ⌜ Valid (r .head) (r .line) ⌝ }

@@ -4,7 +4,7 @@ ghost use mathlib.Core.Path.{_≡_};
 ghost use mathlib.Core.List.{_∷_};
 ghost use Prim.Native.Nat.{_+_, _*_, _/_, _%_, _≤_, _<_};
 ghost use lib.ListN.{length, replicate};
-ghost use Rattle.record.specs.Record.{bytes as Bytes, word as Word, without as Without};
+ghost use Rattle.record.specs.Record.{bytes as bytesOf, word as Word, without as Without};
 ghost use Rattle.record.specs.Record.{illFormed, fields as Fields, rest as Rest};
 
 mod cut;
@@ -57,7 +57,7 @@ pub fn bit(map: u32, unit: u32) -> u32
 
 // How many bytes a record with this bit map has.
 fn bytes(map: u32) -> usize
-    ensures { λ r. ⌜ r ≡ Bytes map ⌝ }
+    ensures { λ r. ⌜ r ≡ bytesOf map ⌝ }
 {
     let low = bit(map, HAS_WAIT) + bit(map, HAS_LENGTH) + bit(map, HAS_DELAY) + bit(map, HAS_LOSS);
     let high = bit(map, HAS_AMPLITUDE) + bit(map, HAS_COUNT) + bit(map, HAS_SEED);

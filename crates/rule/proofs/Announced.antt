@@ -1,6 +1,7 @@
--- L9: up to the moment the voice in which a change was announced is worked out from the voice in which it was
--- not: by steps and blocks the one goes beside the other. Assumes nothing.
+-- L9 and L3: up to the moment the voice in which a change was announced, or asked for, is worked out from the
+-- voice in which it was not: by steps and blocks the one goes beside the other. Assumes nothing.
 use mathlib.Core.Path.{_≡_, refl, sym, ap, ap₂, _∙_}
+use mathlib.Core.Bool.{false}
 use mathlib.Core.List.{List, [], _∷_, _++_}
 use mathlib.Core.Option.{Option, none, some}
 use Prim.Native.Nat.{ℕ, suc, _+_, _-_, _≤_, _<_, min}
@@ -11,8 +12,8 @@ use lib.ListN.{length, take, getD}
 use lib.Seq.{getD-take}
 use Rattle.allpass.specs.Allpass.{run}
 use Rattle.allpass.proofs.Contraction.{run-append}
-use Rattle.rule.specs.Voice.{Tuning, announced, Waiting, Voice, A, rest, output, written, tuned}
-use Rattle.rule.specs.Voice.{fed, fedToo, settled, heard, stepped}
+use Rattle.rule.specs.Voice.{Tuning, Kind, announced, asked, Waiting, Voice, A, rest, output, written}
+use Rattle.rule.specs.Voice.{tuned, fed, fedToo, commits, settled, heard, stepped}
 use Rattle.rule.specs.Calls.{instant, window, done}
 use Rattle.rule.specs.State.{State, back, step, sounds, blockAfter, blockOut, told}
 use Rattle.rule.proofs.Read.{window-grows}
@@ -36,30 +37,29 @@ module _ (l : List ℤ) (x : ℤ) where
       window-alike (back (x ∷ take 2111 l)) (back (x ∷ l)) L (suc a) uncut high
       ∙ window-grows (back l) (back (x ∷ l)) L a low further
 
-module _ (to : Tuning) where
-  -- the change, a samples after it was announced, with the line l
+-- before Na samples were taken it waits, whichever its kind
+uncommitted : (k : Kind) (a Na : ℕ) → a < Na → commits k a Na ≡ false
+uncommitted announced a Na h = ne-eqb a Na (λ e. omega arith)
+uncommitted asked a Na h = refl
+
+module _ (k : Kind) (to : Tuning) where
+  -- the change, a samples after it was announced or asked for, with the line l
   abbrev pub eliminator : List ℤ → ℕ → Waiting
   eliminator l a = record {
-    kind = announced;
+    kind = k;
     tuning = to;
     taken = a;
     state = run (A to) (rest to) (window (back l) (to .L) a);
   }
 
-  -- u, had the change been announced in it a samples ago
+  -- u, had the change been announced, or asked for, in it a samples ago
   abbrev pub beside : State → ℕ → State
   beside u a = record { voice = settled (u .voice) (some (eliminator (u .line) a)); line = u .line }
-
-  -- ---- the moment, and before it
-  -- with Na samples taken it is in force, and is the instant change
-  pub due : (u : State) → beside u (u .voice .Na) ≡ told u (instant to)
-  unfolding settled done
-  due u = rw (eq-eqb (u .voice .Na) (u .voice .Na) refl)
 
   waits : (v : Voice) (l : List ℤ) (a : ℕ) → a < v .Na
       → settled v (some (eliminator l a)) ≡ tuned v (v .tuning) (v .state) (some (eliminator l a))
   unfolding settled
-  waits v l a h = rw (ne-eqb a (v .Na) (λ e. omega arith))
+  waits v l a h = rw (uncommitted k a (v .Na) h)
 
   beside-waits : (u : State) (a : ℕ) → a < u .voice .Na
       → beside u a ≡ record {
@@ -99,6 +99,12 @@ module _ (to : Tuning) where
       ∙ ap (λ (g : Voice). record { voice = settled g (some (eliminator l (suc a))); line = l })
       (sym (stepped-heard v r i))
 
+-- ---- the moment
+-- with Na samples taken an announced change is in force, and is the instant one
+pub due : (to : Tuning) (u : State) → beside announced to u (u .voice .Na) ≡ told u (instant to)
+unfolding settled done
+due to u = rw (eq-eqb (u .voice .Na) (u .voice .Na) refl)
+
 -- ---- a block
 -- the voice without the change, of advance Na
 pub record Idle (Na : ℕ) (u : State) : Type 0 where
@@ -114,26 +120,26 @@ idle-step u x i =
       advance = stepped-keeps (u .voice) r .advance ∙ i .advance;
     }
 
-module _ (to : Tuning) (low : 1 ≤ to .L) (Na : ℕ) (high : to .L + Na ≤ 2112) where
+module _ (k : Kind) (to : Tuning) (low : 1 ≤ to .L) (Na : ℕ) (high : to .L + Na ≤ 2112) where
   pub record Blocks (u : State) (a : ℕ) (xs : List ℤ) : Type 0 where
-    pub left : blockAfter (beside to u a) xs ≡ beside to (blockAfter u xs) (a + length xs)
-    pub out : blockOut (beside to u a) xs ≡ blockOut u xs
+    pub left : blockAfter (beside k to u a) xs ≡ beside k to (blockAfter u xs) (a + length xs)
+    pub out : blockOut (beside k to u a) xs ≡ blockOut u xs
     pub idle : Idle Na (blockAfter u xs)
 
   pub blocks : (xs : List ℤ) (u : State) (a : ℕ) → Idle Na u → a + length xs ≤ Na → Blocks u a xs
   blocks [] u a i h =
       let e : a ≡ a + 0 = omega arith in
-      record { left = ap (beside to u) e; out = refl; idle = i }
+      record { left = ap (beside k to u) e; out = refl; idle = i }
   blocks (x ∷ xs) u a i h =
       let one : a < u .voice .Na = omega (arith, i .advance) in
-      let s : step (beside to u a) x ≡ beside to (step u x) (suc a)
-      = beside-step to u x a (i .waiting) low (omega arith) one in
+      let s : step (beside k to u a) x ≡ beside k to (step u x) (suc a)
+      = beside-step k to u x a (i .waiting) low (omega arith) one in
       let b = blocks xs (step u x) (suc a) (idle-step u x i) (omega arith) in
       let e : suc a + length xs ≡ a + suc (length xs) = omega arith in
       record {
-        left = ap (λ (v : State). blockAfter v xs) s ∙ b .left ∙ ap (beside to (blockAfter (step u x) xs)) e;
+        left = ap (λ (v : State). blockAfter v xs) s ∙ b .left ∙ ap (beside k to (blockAfter (step u x) xs)) e;
         out =
-            ap₂ (λ (y : ℤ) (ys : List ℤ). y ∷ ys) (beside-sounds to u a one)
+            ap₂ (λ (y : ℤ) (ys : List ℤ). y ∷ ys) (beside-sounds k to u a one)
             (ap (λ (v : State). blockOut v xs) s ∙ b .out);
         idle = b .idle;
       }

@@ -1,8 +1,8 @@
 -- Demand 3 speaks of every sample: it is exactly the opening filter's, or `click` speaks of it.
 -- Assumes nothing.
 use mathlib.Core.Path.{_≡_, refl, sym, _∙_}
-use mathlib.Core.List.{List, [], _∷_, map}
-use Prim.Native.Nat.{ℕ, _/_, _≤_, _<_}
+use mathlib.Core.List.{List}
+use Prim.Native.Nat.{ℕ, _≤_, _<_}
 use native.Mathlib.Omega.{arith}
 use lib.IntN.{pos}
 use lib.ListN.{getD}
@@ -12,6 +12,7 @@ use Rattle.rule.specs.State.{puts}
 use Rattle.rule.specs.State as S
 use Rattle.rule.specs.Click.{NoneBy, figure}
 use Rattle.rule.specs.Demands.{Spoken, exact, figured}
+use Rattle.rule.specs.Literals.{FigureEnds, FigureAdvances}
 use Rattle.rule.proofs.Keeps.{none-some}
 use Rattle.rule.proofs.Opened.{opened-rested}
 use Rattle.rule.proofs.Sound.{fresh-sound}
@@ -46,20 +47,11 @@ speaks o cs m short = go (covered m (fresh o) cs)
         (click o cs pre post c (k .t) (k .a) (k .e) m (k .split) (k .change) (k .until)
         (omega (arith, k .since)) short)
 
--- ---- "3 × 2^(23 − k), where .. k is at most 23, and .. 2 where k is larger": its ends
-pub figure-ends :
-    (figure 0 ≡ 25165824) × (figure 1 ≡ 12582912) × (figure 22 ≡ 6)
-    × (figure 23 ≡ 3) × (figure 24 ≡ 2) × (figure 25 ≡ 2)
+-- ---- the figure in numbers
+pub figure-ends : FigureEnds
 unfolding figure
-figure-ends = (refl, refl, refl, refl, refl, refl)
+figure-ends = record { k-0 = refl; k-1 = refl; k-22 = refl; k-23 = refl; k-24 = refl; k-25 = refl }
 
--- the figure right after a change took effect, by the advance, in order N: docs/CLICK.md has these as a table
-pub advances : ℕ → List ℕ
-advances N = map (λ Na. figure (Na / N)) (0 ∷ 8 ∷ 16 ∷ 24 ∷ 32 ∷ 48 ∷ 64 ∷ [])
-
-pub figure-advances :
-    (advances 1 ≡ 25165824 ∷ 98304 ∷ 384 ∷ 2 ∷ 2 ∷ 2 ∷ 2 ∷ [])
-    × (advances 2 ≡ 25165824 ∷ 1572864 ∷ 98304 ∷ 6144 ∷ 384 ∷ 2 ∷ 2 ∷ [])
-    × (advances 3 ≡ 25165824 ∷ 6291456 ∷ 786432 ∷ 98304 ∷ 24576 ∷ 384 ∷ 12 ∷ [])
-unfolding figure advances
-figure-advances = (refl, refl, refl)
+pub figure-advances : FigureAdvances
+unfolding figure
+figure-advances = record { order-1 = refl; order-2 = refl; order-3 = refl }

@@ -51,7 +51,7 @@ keeps v r = record {
   withdraw-rest = record { loss = refl; advance = refl; last = refl; pluck = refl };
   instant-rest = λ to. record { loss = refl; advance = refl; last = refl; pluck = refl };
   instant-now = λ to. record { tuning = refl; state = refl; waiting = refl };
-  counted = λ to e. let i = eq-eqb (number v (instant to)) 0 e in (rw (i, length-window r (to .L) (v .Na)), rw i);
+  counted = λ to e. let i = eq-eqb (number v (instant to)) 0 e in (rw i, rw (i, length-window r (to .L) (v .Na)));
 }
 
 -- what waits after an announced change or an ask is its eliminator at rest

@@ -35,11 +35,11 @@ mod Beside
 pub mod Numbers
 pub mod Many
 pub mod Live
+pub mod Itself
 pub mod Sample
 pub mod Plucks
 mod Loop
 mod Fade
 mod Fading
 pub mod Silence
-mod Instance
-pub mod LiveInstances
+pub mod Instances

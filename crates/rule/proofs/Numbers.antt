@@ -2,8 +2,9 @@
 -- Assumes nothing.
 use mathlib.Core.Path.{_≡_, refl, sym, ap, ap₂, _∙_}
 use mathlib.Core.List.{List, [], _∷_, _++_, append-assoc}
-use Prim.Native.Nat.{ℕ, suc}
-use lib.ListN.{length}
+use Prim.Native.Nat.{ℕ, zero, suc, _+_}
+use native.Mathlib.Omega.{arith}
+use lib.ListN.{length, length-append}
 use Rattle.rule.specs.Calls.{Call}
 use Rattle.rule.specs.State.{State, call, from}
 use Rattle.rule.specs.Live.{without}
@@ -12,6 +13,12 @@ use Rattle.rule.proofs.Puts.{from-append}
 without-one : (p q : List ℕ) (n : ℕ) → without (length p) (p ++ n ∷ q) ≡ p ++ q
 without-one [] q n = refl
 without-one (x ∷ p) q n = ap (λ (ns : List ℕ). x ∷ ns) (without-one p q n)
+
+without-behind : (p q : List ℕ) (k m : ℕ) → m ≡ length p + k → without m (p ++ q) ≡ p ++ without k q
+without-behind [] q k m e = let i : m ≡ k = omega arith in ap (λ (n : ℕ). without n q) i
+without-behind (x ∷ p) q k zero e = absurd (omega arith)
+without-behind (x ∷ p) q k (suc m) e =
+    ap (λ (ns : List ℕ). x ∷ ns) (without-behind p q k m (omega arith))
 
 -- of the numbers F, one for each call
 module _ (F : State → List Call → List ℕ) (f : State → Call → ℕ) (end : (v : State) → F v [] ≡ [])
@@ -35,18 +42,31 @@ module _ (F : State → List Call → List ℕ) (f : State → Call → ℕ) (en
       ∙ without-one (F v cs) (F (call (from v cs) c) ds) (f (from v cs) c)
 
   -- with c before mid, and d after it
-  pub moved : (v : State) (pre mid post : List Call) (c d : Call)
-      → F (call (from v pre) c) mid ≡ F (from v pre) mid
-      → from (call (from v pre) c) mid ≡ call (from (from v pre) mid) d
-      → without (length pre) (F v (pre ++ c ∷ (mid ++ post)))
-      ≡ without (length (pre ++ mid)) (F v (pre ++ (mid ++ d ∷ post)))
-  moved v pre mid post c d e m =
-      let u = from v pre in
-      but-one v pre (mid ++ post) c
-      ∙ ap (λ (ns : List ℕ). F v pre ++ ns)
-      (each-append (call u c) mid post ∙ ap₂ (λ (ns : List ℕ) (x : State). ns ++ F x post) e m)
-      ∙ sym (append-assoc (F v pre) (F u mid) (F (call (from u mid) d) post))
-      ∙ ap₂ (λ (ns : List ℕ) (x : State). ns ++ F (call x d) post) (sym (each-append v pre mid))
-      (sym (from-append v pre mid))
-      ∙ sym (but-one v (pre ++ mid) post d)
-      ∙ ap (λ (cs : List Call). without (length (pre ++ mid)) (F v cs)) (append-assoc pre mid (d ∷ post))
+  pub moved : (v : State) (mid post : List Call) (c d : Call)
+      → F (call v c) mid ≡ F v mid
+      → from (call v c) mid ≡ call (from v mid) d
+      → without 0 (F v (c ∷ (mid ++ post))) ≡ without (length mid) (F v (mid ++ d ∷ post))
+  moved v mid post c d e m =
+      but-one v [] (mid ++ post) c
+      ∙ ap (λ (ns : List ℕ). ns ++ F (call v c) (mid ++ post)) (end v)
+      ∙ each-append (call v c) mid post
+      ∙ ap₂ (λ (ns : List ℕ) (x : State). ns ++ F x post) e m
+      ∙ sym (but-one v mid post d)
+
+  -- calls in front of both lists
+  front : (v : State) (pre cs : List Call) (k : ℕ)
+      → without (length pre + k) (F v (pre ++ cs)) ≡ F v pre ++ without k (F (from v pre) cs)
+  front v pre cs k =
+      ap₂ (λ (n : ℕ) (ns : List ℕ). without (n + k) ns) (sym (each-length v pre)) (each-append v pre cs)
+      ∙ without-behind (F v pre) (F (from v pre) cs) k (length (F v pre) + k) refl
+
+  pub behind : (v : State) (pre mid cs ds : List Call)
+      → without 0 (F (from v pre) cs) ≡ without (length mid) (F (from v pre) ds)
+      → without (length pre) (F v (pre ++ cs)) ≡ without (length (pre ++ mid)) (F v (pre ++ ds))
+  behind v pre mid cs ds e =
+      let i : length pre ≡ length pre + 0 = omega arith in
+      ap (λ (n : ℕ). without n (F v (pre ++ cs))) i
+      ∙ front v pre cs 0
+      ∙ ap (λ (ns : List ℕ). F v pre ++ ns) e
+      ∙ sym (front v pre ds (length mid))
+      ∙ ap (λ (n : ℕ). without n (F v (pre ++ ds))) (sym (length-append pre mid))

@@ -57,7 +57,7 @@ opens o =
     let a = early (o .Na) in
     record {
       order = refused [] n (l ∷ d ∷ g ∷ a ∷ []) tt;
-      length = refused (n ∷ []) l (d ∷ g ∷ a ∷ []) tt;
+      long = refused (n ∷ []) l (d ∷ g ∷ a ∷ []) tt;
       delay = refused (n ∷ l ∷ []) d (g ∷ a ∷ []) tt;
       loss = refused (n ∷ l ∷ d ∷ []) g (a ∷ []) tt;
       advance = refused (n ∷ l ∷ d ∷ g ∷ []) a [] tt;
@@ -75,7 +75,7 @@ changes v to =
     let zero = accepted n (l ∷ k ∷ i ∷ []) tt in
     record {
       order = refused [] n (l ∷ k ∷ i ∷ []) tt;
-      length = refused (n ∷ []) l (k ∷ i ∷ []) tt;
+      long = refused (n ∷ []) l (k ∷ i ∷ []) tt;
       delay = refused (n ∷ l ∷ []) k (i ∷ []) tt;
       waits = (
         λ e. let p = six .0 e in (p .0, (p .1 .0, (p .1 .1 .0, λ z. p .1 .1 .1 (w .1 z)))),
@@ -205,5 +205,5 @@ refuses = record {
   resting = λ o e. rw (eq-eqb (refusal (openLimits o)) 0 e) (rests (o .N) (o .L) (o .d) (o .G) (o .Na));
   resting-refused = λ o f. rw (ne-eqb (refusal (openLimits o)) 0 f) (rests 1 1 4096 0 0);
   unchanged = λ v c f. let e = ne-eqb (number (v .voice) c) 0 f in (rw e, rw e);
-  uncounted = λ v to f. rw (ne-eqb (number v (instant to)) 0 f);
+  uncounted = λ v r to f. rw (ne-eqb (number v (instant to)) 0 f);
 }

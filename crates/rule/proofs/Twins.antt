@@ -122,23 +122,38 @@ twin-withdraw {u = u} (joined e i) =
     joined (ap (λ (u : State). call u withdraw) e)
     (ap (λ (u : State). u .voice .waiting) (withdraws-none u i) ∙ i)
 
-twin-call : {v u : State} (c : Call) → Plain c → Twin v u → Same v u c
+-- nothing asked waits in u, so both refuse a commit
+twin-commit : {v u : State} → (number (v .voice) commit ≡ 0 → ⊥) → Twin v u → Same v u commit
+twin-commit {v} {u} f t =
+    let p = refuses .unchanged v commit f in
+    let q = refuses .unchanged u commit (idle-refuses t) in
+    record {
+      twin = subst (Twin (call v commit)) (sym (q .0)) (subst (λ (x : State). Twin x u) (sym (p .0)) t);
+      put = p .1 ∙ sym (q .1);
+    }
+  where
+    idle-refuses : {v u : State} → Twin v u → number (u .voice) commit ≡ 0 → ⊥
+    idle-refuses {u = u} (apart w p κ e) z =
+        none-some (sym (ap (λ (u : State). u .voice .waiting) e) ∙ refuses .commits (u .voice) .accepted .0 z .held)
+    idle-refuses {u = u} (joined e i) z = none-some (sym i ∙ refuses .commits (u .voice) .accepted .0 z .held)
+
+twin-call : {v u : State} (c : Call) → Plain v c → Twin v u → Same v u c
 unfolding number done
 twin-call (block xs n) k t = twin-alike (block xs n) refl t t
 twin-call (loss G) k t = twin-alike (loss G) refl t (twin-loss G t)
 twin-call (pluck a n z) k t = twin-alike (pluck a n z) refl t (twin-pluck a n z t)
 twin-call (prepare i to) k t = absurd k
 twin-call (instant to) k t = absurd k
-twin-call commit k t = absurd k
+twin-call commit k t = twin-commit k t
 twin-call {v} {u} withdraw k t =
     record { twin = twin-withdraw t; put = put-none v withdraw refl ∙ sym (put-none u withdraw refl) }
 
 -- ---- calls
-pub twin-from : (cs : List Call) {v u : State} → AllPlain cs → Twin v u → Twin (from v cs) (from u cs)
+pub twin-from : (cs : List Call) {v u : State} → AllPlain v cs → Twin v u → Twin (from v cs) (from u cs)
 twin-from [] k t = t
 twin-from (c ∷ cs) k t = twin-from cs (k .1) (twin-call c (k .0) t .twin)
 
-pub twin-puts : (cs : List Call) {v u : State} → AllPlain cs → Twin v u → puts v cs ≡ puts u cs
+pub twin-puts : (cs : List Call) {v u : State} → AllPlain v cs → Twin v u → puts v cs ≡ puts u cs
 twin-puts [] k t = refl
 twin-puts (c ∷ cs) k t =
     let s = twin-call c (k .0) t in

@@ -35,7 +35,8 @@ ends {u = u} (joined e i) = ap (λ (v : State). call v withdraw) e ∙ withdraws
 
 -- what the rest of the list makes of the one is what it makes of the other
 module _ (o : Opening) (pre mid post : List Call) (to : Tuning)
-    (z : number (from (fresh o) pre .voice) (ask to) ≡ 0) (k : AllPlain mid) where
+    (z : number (from (fresh o) pre .voice) (ask to) ≡ 0)
+    (k : AllPlain (call (from (fresh o) pre) (ask to)) mid) where
   abbrev u : State
   u = from (fresh o) pre
 

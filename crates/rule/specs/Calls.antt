@@ -6,6 +6,7 @@ use mathlib.Core.Option.{Option, none, some}
 use Prim.Native.Nat.{ℕ, zero, suc, _+_}
 use lib.Dec.{eqb}
 use lib.IntN.{ℤ, pos}
+use lib.ListN.{length}
 use Rattle.refusal.specs.Limits.{Limit, refusal}
 use Rattle.refusal.specs.Orders.{order, delay}
 use Rattle.allpass.specs.Allpass.{run}
@@ -136,12 +137,13 @@ inputs (instant to) = []
 inputs commit = []
 inputs withdraw = []
 
--- "it also returns the number of samples run, which is Na"; "the instant change counts 0" where it is refused
-unfoldable pub count : Voice → Call → ℕ
-count v (block xs n) = 0
-count v (loss G) = 0
-count v (pluck a n z) = 0
-count v (prepare k to) = 0
-count v (instant to) = cond (eqb (number v (instant to)) 0) (v .Na) 0
-count v commit = 0
-count v withdraw = 0
+-- "it also returns the number of samples run": as many as its eliminator takes; "the instant change counts 0"
+-- where it is refused
+unfoldable pub count : Voice → (ℕ → ℤ) → Call → ℕ
+count v r (block xs n) = 0
+count v r (loss G) = 0
+count v r (pluck a n z) = 0
+count v r (prepare k to) = 0
+count v r (instant to) = cond (eqb (number v (instant to)) 0) (length (window r (to .L) (v .Na))) 0
+count v r commit = 0
+count v r withdraw = 0

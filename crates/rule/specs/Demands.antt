@@ -97,8 +97,8 @@ module _ (h : History) (x : ℤ) where
   pub record Sample : Type 0 where
     -- "1. f = s(n − L). The filter gives the output y(n)"
     pub output : y n ≡ out (A (v .tuning)) (v .state) (read (h .s) n (v .tuning .L))
-    -- "3. s(n) = clip(p(n) + G·(y(n) + y(n − 1))/131,072), where y(−1) = 0", with "the loop's division" cut
-    -- "toward zero instead of rounding" (document 02, L7)
+    -- step 3, by document 02's L7: s(n) = clip(p(n) + G·(y(n) + y(n − 1))/131,072), "where y(−1) = 0", "the loop's
+    -- division" cut "toward zero instead of rounding"
     pub sample :
         s n
         ≡ clip (p +ℤ cut (pos (v .G) *ℤ (y n +ℤ read (h .y) n 1)) 131072)

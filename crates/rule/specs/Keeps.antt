@@ -75,7 +75,7 @@ pub record Keeps (v : Voice) (r : ℕ → ℤ) : Type 0 where
   pub instant-rest : (to : Tuning) → Retuned v (done v r (instant to))
   -- "it also returns the number of samples run, which is Na"
   pub counted : (to : Tuning) → number v (instant to) ≡ 0
-      → (count v (instant to) ≡ length (window r (to .L) (v .Na))) × (count v (instant to) ≡ v .Na)
+      → (count v r (instant to) ≡ length (window r (to .L) (v .Na))) × (count v r (instant to) ≡ v .Na)
 
 -- ---- "an accepted block of b samples is b steps, every other call and every refused one is none"
 pub record NoStep (h u : History) : Type 0 where

@@ -15,3 +15,4 @@ pub mod Asked
 pub mod Literals
 pub mod Silence
 pub mod Live
+pub mod Instances

@@ -1,15 +1,34 @@
--- The click figure in literals, for every opening and list: beside `Click`, so that no bound that is met by
--- everything can pass for it. Statements alone: proofs/Literals.antt proves them. Assumes nothing.
+-- The click figure in literals, by itself, and for every opening and list: beside `Click`, so that no bound that is
+-- met by everything can pass for it. Statements alone: proofs/Cover.antt and Literals.antt prove them.
 use mathlib.Core.Path.{_≡_}
-use mathlib.Core.List.{List}
-use Prim.Native.Nat.{ℕ, _+_, _≤_, _<_}
+use mathlib.Core.List.{List, [], _∷_, map}
+use Prim.Native.Nat.{ℕ, _+_, _/_, _≤_, _<_}
 use lib.IntN.{pos, natAbs, _-ℤ_}
 use lib.ListN.{getD}
 use Rattle.rule.specs.Calls.{Call, Opening}
 use Rattle.rule.specs.History.{steps, fresh, after, new}
 use Rattle.rule.specs.State.{puts}
 use Rattle.rule.specs.State as S
+use Rattle.rule.specs.Click.{figure}
 use Rattle.rule.specs.Demands.{Rules}
+
+-- "3 × 2^(23 − k), where .. k is at most 23, and .. 2 where k is larger": its ends
+pub record FigureEnds : Type 0 where
+  pub k-0 : figure 0 ≡ 25165824
+  pub k-1 : figure 1 ≡ 12582912
+  pub k-22 : figure 22 ≡ 6
+  pub k-23 : figure 23 ≡ 3
+  pub k-24 : figure 24 ≡ 2
+  pub k-25 : figure 25 ≡ 2
+
+-- the figure right after a change took effect, by the advance, in order N: docs/CLICK.md has these as a table
+abbrev pub advances : ℕ → List ℕ
+advances N = map (λ Na. figure (Na / N)) (0 ∷ 8 ∷ 16 ∷ 24 ∷ 32 ∷ 48 ∷ 64 ∷ [])
+
+pub record FigureAdvances : Type 0 where
+  pub order-1 : advances 1 ≡ 25165824 ∷ 98304 ∷ 384 ∷ 2 ∷ 2 ∷ 2 ∷ 2 ∷ []
+  pub order-2 : advances 2 ≡ 25165824 ∷ 1572864 ∷ 98304 ∷ 6144 ∷ 384 ∷ 2 ∷ 2 ∷ []
+  pub order-3 : advances 3 ≡ 25165824 ∷ 6291456 ∷ 786432 ∷ 98304 ∷ 24576 ∷ 384 ∷ 12 ∷ []
 
 -- a change in order N whose eliminator took Na samples: each sample that comes j or more samples after it took effect, while
 -- it is in force, differs from the new filter's by at most B

@@ -1,13 +1,16 @@
 -- L9, "Live equals announced": a change announced Na samples before a moment, and the same change made then,
--- instantly. Statements alone: proofs/Live.antt proves `Lives`, and Many.antt `AsMany`. Assumes nothing.
+-- instantly: of any voice within its limits, and of lists from an opening. Statements alone: proofs/Live.antt
+-- proves `Meet` and from it `Lives`, and Many.antt `AsMany`.
 use mathlib.Core.Path.{_≡_}
 use mathlib.Core.List.{List, [], _∷_, _++_}
+use mathlib.Core.Option.{none}
 use Prim.Native.Nat.{ℕ, suc}
 use lib.ListN.{length, take, drop}
 use Rattle.rule.specs.Voice.{Tuning}
 use Rattle.rule.specs.Calls.{Call, block, loss, pluck, prepare, announce, instant, commit, withdraw}
 use Rattle.rule.specs.Calls.{Opening, number}
 use Rattle.rule.specs.State.{State, fresh, from, puts, numbers, counts}
+use Rattle.rule.specs.Valid.{Whole}
 
 -- "with no other change or ask called between"; a commit or a withdrawal may be: both voices refuse it
 abbrev pub NoChanges : List Call → Type 0
@@ -24,6 +27,31 @@ NoChanges (withdraw ∷ cs) = NoChanges cs
 abbrev pub without : ℕ → List ℕ → List ℕ
 without k ns = take k ns ++ drop (suc k) ns
 
+-- ---- "two equal voices": any voice v within its limits, whichever calls or stored bytes it comes from
+module _ (v : State) (to : Tuning) (mid : List Call) where
+  -- "with nothing waiting, announce a change Na samples before a moment": mid puts out Na samples, which may be 0
+  pub record Due : Type 0 where
+    pub whole : Whole v
+    pub idle : v .voice .waiting ≡ none
+    pub between : NoChanges mid
+    pub many : length (puts v mid) ≡ v .voice .Na
+
+  pub record Meets (post : List Call) : Type 0 where
+    -- "then all their outputs agree, and the voices are equal from that moment on", line and all
+    pub outputs : puts v (announce to ∷ (mid ++ post)) ≡ puts v (mid ++ instant to ∷ post)
+    pub state : from v (announce to ∷ (mid ++ post)) ≡ from v (mid ++ instant to ∷ post)
+    -- both accept the change, or both refuse it by one number
+    pub code : number (v .voice) (announce to) ≡ number (from v mid .voice) (instant to)
+    -- all other calls return the same numbers, and the same counts
+    pub codes : without 0 (numbers v (announce to ∷ (mid ++ post)))
+        ≡ without (length mid) (numbers v (mid ++ instant to ∷ post))
+    pub runs : without 0 (counts v (announce to ∷ (mid ++ post)))
+        ≡ without (length mid) (counts v (mid ++ instant to ∷ post))
+
+  abbrev pub Meet : Type 0
+  Meet = Due → (post : List Call) → Meets post
+
+-- ---- from an opening
 -- the calls pre, mid and post, with a change announced before mid, or made instantly after it
 module _ (o : Opening) (pre : List Call) (to : Tuning) (mid : List Call) where
   abbrev pub announcing : List Call → List Call

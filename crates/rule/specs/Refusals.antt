@@ -30,7 +30,7 @@ Delayed N d = Between (lowest N) d (highest N)
 -- "Open: 1 order, 2 L, 3 d, 4 G, 5 Na outside the limits"
 pub record OpenReturns (N L d G Na n : ℕ) : Type 0 where
   pub order : (n ≡ 1) ↔ (Ordered N → ⊥)
-  pub length : (n ≡ 2) ↔ (Ordered N × (Long L → ⊥))
+  pub long : (n ≡ 2) ↔ (Ordered N × (Long L → ⊥))
   pub delay : (n ≡ 3) ↔ (Ordered N × (Long L × (Delayed N d → ⊥)))
   pub loss : (n ≡ 4) ↔ (Ordered N × (Long L × (Delayed N d × (Between 0 G 65535 → ⊥))))
   pub advance : (n ≡ 5) ↔ (Ordered N × (Long L × (Delayed N d × (Between 0 G 65535 × (Between 0 Na 64 → ⊥)))))
@@ -40,7 +40,7 @@ pub record OpenReturns (N L d G Na n : ℕ) : Type 0 where
 -- that was asked for counts as waiting"; L6: "A change now tests 1 before 2", and 3 with the order that it names
 pub record ChangeReturns (v : Voice) (N L d n : ℕ) : Type 0 where
   pub order : (n ≡ 1) ↔ (Ordered N → ⊥)
-  pub length : (n ≡ 2) ↔ (Ordered N × (Long L → ⊥))
+  pub long : (n ≡ 2) ↔ (Ordered N × (Long L → ⊥))
   pub delay : (n ≡ 3) ↔ (Ordered N × (Long L × (Delayed N d → ⊥)))
   pub waits : (n ≡ 6) ↔ (Ordered N × (Long L × (Delayed N d × (v .waiting ≡ none → ⊥))))
   pub accepted : (n ≡ 0) ↔ (Ordered N × (Long L × (Delayed N d × (v .waiting ≡ none))))
@@ -111,4 +111,5 @@ pub record Refuses : Type 0 where
   -- "The voice is unchanged", "Output and voice are unchanged"
   pub unchanged : (v : State) (c : Call) → (number (v .voice) c ≡ 0 → ⊥) → (call v c ≡ v) × (put v c ≡ [])
   -- "the instant change counts 0"
-  pub uncounted : (v : Voice) (to : Tuning) → (number v (instant to) ≡ 0 → ⊥) → count v (instant to) ≡ 0
+  pub uncounted : (v : Voice) (r : ℕ → ℤ) (to : Tuning) → (number v (instant to) ≡ 0 → ⊥)
+      → count v r (instant to) ≡ 0

@@ -71,4 +71,4 @@ numbers v (c ∷ cs) = number (v .voice) c ∷ numbers (call v c) cs
 
 abbrev pub counts : State → List Call → List ℕ
 counts v [] = []
-counts v (c ∷ cs) = count (v .voice) c ∷ counts (call v c) cs
+counts v (c ∷ cs) = count (v .voice) (back (v .line)) c ∷ counts (call v c) cs

@@ -89,8 +89,8 @@ abbrev pub fedToo : ℕ → Option Waiting → (ℕ → ℤ) → Option Waiting
 fedToo Na none r = none
 fedToo Na (some w) r = some (fed Na w r)
 
--- "3. s(n) = clip(p(n) + G·(y(n) + y(n − 1))/131,072)", the quotient cut toward zero (document 02, L7): p(n) is
--- the input plus the noise, and Q is the loop's division
+-- step 3, by document 02's L7: s(n) = clip(p(n) + G·(y(n) + y(n − 1))/131,072), the quotient cut toward zero. p(n)
+-- is the input plus the noise, and Q is "the loop's division"
 unfoldable pub written : Voice → (ℕ → ℤ) → ℤ → ℤ
 written v r x =
     clip ((x +ℤ noise (v .pluck)) +ℤ Q (pos (v .G) *ℤ (output v r +ℤ v .last)))

@@ -1,5 +1,5 @@
 -- `change::prepared` meets its contract. The loop's invariant: what is left of the window takes p
--- to where the whole of it takes f. The measure is what is left. Assumes nothing.
+-- to where the whole of it takes f, and as many were counted as are not left. The measure is what is left.
 use mathlib.Core.Path.{_≡_, refl, ap, _∙_}
 use Prim.Native.Nat.{_+_, _-_, _≤_}
 use native.Mathlib.Omega.{arith}
@@ -12,20 +12,21 @@ use Rattle.rule.specs.State.{back}
 use Rattle.voice.specs.declared.Tuning.{Tuning}
 use Rattle.voice.specs.Struct.{tuningOf, filterOf}
 use Rattle.voice.specs.Valid.{Tuned}
+use Rattle.rule.proofs.Read.{length-window}
 use Rattle.voice.proofs.Within.{read-within}
 use Rattle.change.proofs.Windows.{window-run}
 use Rattle.change.proofs.prepared.Statement.{statement}
 use Rattle.change.proofs.prepared.Tie as tie
 
 abbrev Inv-loop : tie.InvT-loop
-Inv-loop line f at advance p₀ left₀ p left =
+Inv-loop line f at advance p₀ left₀ count₀ p left count =
     let A′ = A (tuningOf (f .tuning)) in
     let over = window (back (ring at line)) (f .tuning .length) in
-    Tuned p × (p .tuning ≡ f .tuning) × (left ≤ advance)
+    Tuned p × (p .tuning ≡ f .tuning) × (count + left ≡ advance)
     × (run A′ (filterOf p) (over left) ≡ run A′ (filterOf f) (over advance))
 
 abbrev μ-loop : tie.MeasureT-loop
-μ-loop line f at advance p₀ left₀ p left = left
+μ-loop line f at advance p₀ left₀ count₀ p left count = left
 
 loop-holds : tie.Need-loop-holds Inv-loop μ-loop
 loop-holds c = (c .pre .0, refl, omega arith, refl)
@@ -57,6 +58,9 @@ moved-requires c κs =
 sub-left : tie.Need-sub-left Inv-loop μ-loop
 sub-left c = omega arith
 
+add-count : tie.Need-add-count Inv-loop μ-loop
+add-count c = omega arith
+
 loop-less : tie.Need-loop-less Inv-loop μ-loop
 loop-less c = omega arith
 
@@ -83,7 +87,14 @@ returns : tie.Need-returns Inv-loop μ-loop
 returns c =
     let l = c .before .loop in
     let i : l .left ≡ 0 = omega arith in
-    record { tuning = l .inv .1; state = rw i at (l .inv .3); tuned = l .inv .0 }
+    let a = c .before .before .args in (
+      record { tuning = l .inv .1; state = rw i at (l .inv .3); tuned = l .inv .0 },
+      omega (
+        arith,
+        l .inv .2,
+        length-window (back (ring (a .at) (a .line .now))) (a .f .tuning .length) (a .advance),
+      ),
+    )
 
 pub prepared-spec : {M : Type 1} → statement M
 prepared-spec =
@@ -97,6 +108,7 @@ prepared-spec =
     read-requires
     moved-requires
     sub-left
+    add-count
     loop-less
     loop-again
     returns)

@@ -3,6 +3,8 @@
 use mathlib.Core.Path.{sym, subst}
 use Prim.Native.Nat.{ℕ}
 use borrow.Author.Needs.{needs}
+use Rattle.line.specs.Ring.{ring}
+use Rattle.rule.specs.State.{back}
 use Rattle.voice.specs.Struct.{voiceOf}
 use Rattle.voice.proofs.Called.{on}
 use Rattle.list.proofs.Calling.{instantly, uncounted, counts-none}
@@ -32,7 +34,7 @@ returns-2 c =
     let s = e .before in
     let a = s .args in
     λ xs. uncounted (on (a .line .now) (p .apart .ensures xs) (s .pre .0 .line)) (c .uncounted .ensures)
-    (counts-none (voiceOf (a .head)) (a .kind) (a .a) (a .b) (a .c) xs (e .if1 .left))
+    (counts-none (voiceOf (a .head)) (back (ring (a .head .at) (a .line .now))) (a .kind) (a .a) (a .b) (a .c) xs (e .if1 .left))
 
 pub call-spec : {M : Type 1} → statement M
 call-spec =

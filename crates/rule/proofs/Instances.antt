@@ -1,5 +1,4 @@
--- "It does not differ at all", at a list whose line sounds from the moment that the second copy begins: only
--- what was read before that is asked to be zero. Assumes nothing.
+-- The instance of "It does not differ at all": the line by computation, the rest by the theorem.
 use mathlib.Core.Path.{_≡_, refl}
 use mathlib.Core.List.{List, [], _∷_}
 use Prim.Native.Nat.{ℕ, zero, suc, _<_}
@@ -11,28 +10,17 @@ use Rattle.integer.specs.Cut.{cut, R, Q}
 use Rattle.thiran.specs.Formula.{a, factor}
 use Rattle.thiran.specs.Coefficients.{coefficient, coefficients}
 use Rattle.allpass.specs.Allpass.{inner, next, out}
-use Rattle.rule.specs.Voice.{Tuning, noise, spent, output, written, settled, stepped}
-use Rattle.rule.specs.Calls.{Opening, Call, block, announce, number, opened, done}
+use Rattle.rule.specs.Voice.{noise, spent, output, written, settled, stepped}
+use Rattle.rule.specs.Calls.{Call, block, announce, number, opened, done}
 use Rattle.rule.specs.History.{read, step, call, after, new}
 use Rattle.rule.specs.State.{fresh, puts}
 use Rattle.rule.specs.Click.{announcing}
+use Rattle.rule.specs.Instances.{o, post, t, cs, Instances}
 use Rattle.rule.proofs.Click.{click}
 use Rattle.rule.proofs.Ruling.{none-block}
 
-abbrev o : Opening
-o = record { N = 2; L = 2; d = 8192; G = 60000; Na = 2 }
-
 abbrev pre : List Call
 pre = block (pos 0 ∷ pos 0 ∷ []) 2 ∷ []
-
-abbrev post : List Call
-post = block (pos 5000 ∷ pos 7 ∷ pos 0 ∷ pos 0 ∷ pos 0 ∷ []) 5 ∷ []
-
-abbrev t : Tuning
-t = record { N = 2; L = 1; d = 9159 }
-
-abbrev cs : List Call
-cs = block (pos 0 ∷ pos 0 ∷ []) 2 ∷ announce t ∷ post
 
 -- what is written: the new filter reads 0 before step 2, and 5,000 at step 3
 line : after o cs .s ≡ pos 0 ∷ pos 0 ∷ pos 5000 ∷ pos 7 ∷ negsuc 325 ∷ pos 1910 ∷ pos 2612 ∷ []
@@ -46,8 +34,11 @@ quiet zero l = refl
 quiet (suc zero) l = rw line
 quiet (suc (suc i)) l = absurd (omega arith)
 
-pub exactly : getD (puts (fresh o) cs) 4 (pos 0) ≡ new t (after o cs .s) 4
+exactly : getD (puts (fresh o) cs) 4 (pos 0) ≡ new t (after o cs .s) 4
 unfolding call step number opened done stepped settled
 exactly =
     click o cs pre post (announce t) t 2 4 4 refl (announcing refl) (none-block 4 _ _ _, tt)
     (omega arith) (omega arith) .same quiet
+
+pub instances : Instances
+instances = record { line = line; zero = quiet; exactly = exactly }
