@@ -1,4 +1,4 @@
-//! The lists of calls at which crates/rule/proofs/LiveInstances.antt has L9 of document 02, in numbers.
+//! The lists of calls at which crates/instances/specs/Live.antt has L9 of document 02, in numbers.
 
 use oracle::console::answers;
 
@@ -18,11 +18,11 @@ fn instances() {
         let live = format!("open {open}; {before}{between}instant {to}; {after}");
         [samples(&early), samples(&live)]
     };
-    let (open, between) = ("1 3 4500 60000 2", "pluck 100 3 7; block 1 0; commit; ");
-    let given = [0, 0, 0, -46_997, 1_091_785, 262_442, -2_087_778, 533_977, -1_963_794];
+    let (open, between) = ("1 3 4500 60000 2", "loss 50000; pluck 100 3 7; block 1 0; commit; loss 65536; ");
+    let given = [0, 0, 0, -46_997, 1_091_785, 262_431, -2_087_413, 531_659, -1_953_942];
     let whole = format!("{between}block 1 -5; ");
     assert_eq!(listed(open, &whole, "3 2 13000"), [given, given]);
-    let less = [0, 0, 0, -46_997, -178_888, 1_246_478, -1_959_366, 505_664];
+    let less = [0, 0, 0, -46_997, -178_888, 1_246_466, -1_959_323, 505_981];
     assert_eq!(listed(open, between, "3 2 13000"), [&given[..8], &less[..]]);
     let (open, between) = ("2 3 8692 60000 0", "pluck 100 3 7; withdraw; commit; ");
     let given = [0, 0, 0, -17_890, 560_911, -1_805_975, 2_887_770];
