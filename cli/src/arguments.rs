@@ -95,6 +95,10 @@ impl Arguments {
         self.value('c').is_some()
     }
 
+    pub fn table(&self) -> bool {
+        self.value('t').is_some()
+    }
+
     pub fn delay(&self, delays: RangeInclusive<u32>) -> Outcome<Option<u32>> {
         self.number('d', "the delay", delays)
     }

@@ -6,6 +6,7 @@ pub mod bytes;
 pub mod click;
 pub mod commands;
 pub mod decimal;
+pub mod enough;
 pub mod failure;
 pub mod files;
 pub mod ideal;

@@ -5,13 +5,14 @@ use crate::say::quoted;
 use std::ffi::OsString;
 
 /// The options: the letter, the long name, and what follows it, if anything does.
-pub const OPTIONS: [(char, &str, &str); 6] = [
+pub const OPTIONS: [(char, &str, &str); 7] = [
     ('o', "output", "a file"),
     ('r', "rate", "a rate"),
     ('a', "advance", "an advance"),
     ('n', "order", "an order"),
     ('d', "delay", "a delay"),
     ('c', "click", ""),
+    ('t', "table", ""),
 ];
 /// The letter of an option, and its value where the same word has it: `-r48000`, `--rate=48000`.
 pub fn option(command: &str, text: &str, letters: &str) -> Outcome<(char, Option<OsString>)> {

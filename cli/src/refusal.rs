@@ -20,7 +20,7 @@ mod tests {
     #[test]
     fn words_stand_in_the_table() {
         let table = include_str!("../../docs/REFUSALS.md");
-        for refusal in Refusal::ALL.iter().filter(|&&refusal| refusal != Refusal::ListForm) {
+        for refusal in Refusal::ALL.iter().filter(|refusal| refusal.number() < 31) {
             let row = format!("| {} | {refusal} |", refusal.number());
             assert!(table.contains(&row), "docs/REFUSALS.md: {row}");
         }

@@ -1,13 +1,14 @@
 //! A score from a file, text or bytes, and the words for what a run of it refuses.
 
-use crate::bytes::{records, Place};
+use crate::bytes::{records, Damage, Place};
 use crate::failure::{Failure, Outcome};
 use crate::files;
 use crate::kind::{self, looks_like_text};
 use crate::number::grouped;
 use crate::refusal;
+use crate::score::Score;
 use crate::take::{self, Refused};
-use crate::text::{compile_with, Compiled, Fault, Instead};
+use crate::text::{compile_with, Advance, Compiled, Fault, Instead};
 use crate::tuning::DEFAULT_RATE;
 use jivaszte::Refusal;
 use std::path::Path;
@@ -49,6 +50,18 @@ impl Tune {
         })?;
         let (bytes, rate) = (compiled.score.encode(), compiled.rate);
         Ok(Tune { name, bytes, rate, text: Some(compiled) })
+    }
+
+    /// The header and the records, where they can be read.
+    pub fn score(&self) -> Outcome<Score> {
+        Score::decode(&self.bytes).map_err(|Damage { place, refusal }| {
+            Failure::input(format!("{}: {place}: {}", self.name, self.words(refusal)))
+        })
+    }
+
+    /// Where the advance comes from.
+    pub fn advance(&self) -> Advance {
+        self.text.as_ref().map_or(Advance::Set, |text| text.advance)
     }
 
     /// Runs the score by the proved library; gives the take.

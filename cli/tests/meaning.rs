@@ -13,11 +13,12 @@ fn hex(text: &str, rate: Option<u32>) -> String {
 #[test]
 fn settings() {
     for (text, bytes) in [
-        ("tune A4", "01 18 63 00 A3 0B FA FE"),
-        ("order 2\ntune A4", "02 30 62 00 A3 1B FA FE"),
+        ("tune A4", "01 00 63 00 A3 0B FA FE"),
+        ("order 2\ntune A4", "02 00 62 00 A3 1B FA FE"),
+        ("tune A3\njump A4", "01 0A C7 00 46 0F FA FE 86 63 00 A3 0B"),
         ("advance 7\ntune A4", "01 07 63 00 A3 0B FA FE"),
         ("loss 0.5\nadvance 0\ntune L 3 d 4096", "01 00 03 00 00 10 00 80"),
-        ("rate 88200\ntune A5", "01 18 63 00 A3 0B FA FE"),
+        ("rate 88200\ntune A5", "01 00 63 00 A3 0B FA FE"),
         ("order 9\nadvance 65\nloss 1 unit\ntune L 1 d 2", "09 41 01 00 02 00 01 00"),
     ] {
         assert_eq!(hex(text, None), bytes, "{text}");
@@ -27,7 +28,7 @@ fn settings() {
 
 #[test]
 fn events() {
-    let header = hex("tune A4", None);
+    let header = hex("advance 24\ntune A4", None);
     for (line, bytes) in [
         ("pluck 200", "30 C8 00 64 00"),
         ("pluck 200 for 50", "30 C8 00 32 00"),
@@ -66,7 +67,7 @@ fn events() {
         ("", ""),
     ] {
         let wanted = [&header, bytes].map(|part| part.trim()).join(" ");
-        let text = format!("tempo 96\ntune A4\n{line}  # {line}\r\n");
+        let text = format!("tempo 96\nadvance 24\ntune A4\n{line}  # {line}\r\n");
         assert_eq!(hex(&text, None), wanted.trim(), "{line}");
     }
 }

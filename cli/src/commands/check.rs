@@ -1,6 +1,7 @@
 //! `check`: what a run would refuse.
 
 use crate::arguments::Arguments;
+use crate::enough;
 use crate::failure::Outcome;
 use crate::files::{self, print};
 use crate::number::duration;
@@ -16,5 +17,5 @@ pub fn run(arguments: &Arguments) -> Outcome {
         say(&clipped.words(tune.rate));
     }
     let (name, length) = (files::input_name(file), duration(take.len(), tune.rate));
-    print(&format!("{name}: {length}, nothing refused\n"))
+    print(&format!("{name}: {length}, nothing refused\n{name}: {}\n", enough::words(&tune)?))
 }

@@ -26,7 +26,7 @@ pub const COMMANDS: [Command; 8] = [
     ("show", "r", include_str!("help/show.txt"), show::run),
     ("check", "r", include_str!("help/check.txt"), check::run),
     ("note", "rn", include_str!("help/note.txt"), note::run),
-    ("advance", "nd", include_str!("help/advance.txt"), advance::run),
+    ("advance", "ndrt", include_str!("help/advance.txt"), advance::run),
 ];
 
 const HELP: &str = include_str!("help/all.txt");

@@ -9,7 +9,7 @@ pub struct Promise {
     pub statement: &'static str,
 }
 
-pub const PROMISES: [Promise; 8] = [
+pub const PROMISES: [Promise; 10] = [
     Promise {
         words: "However a string is played, with whatever values and in whatever order: after a change \
                 of pitch no sample is further from that of a filter which had been there since the \
@@ -30,6 +30,24 @@ pub const PROMISES: [Promise; 8] = [
         proof: "crates/rule/proofs/Literals.antt",
         states: "Literals",
         statement: "crates/rule/specs/Literals.antt",
+    },
+    Promise {
+        words: "Most pitches are better than that. What the coefficients of a pitch's filter add up to is \
+                mostly far below the half that the figure above reckons with, and a sample is never further \
+                away than this sum makes it: less than the figure above, or as much, for every pitch.",
+        theorem: "own-click",
+        proof: "crates/rule/proofs/Click.antt",
+        states: "OwnClick",
+        statement: "crates/rule/specs/OwnFigure.antt",
+    },
+    Promise {
+        words: "So 16 samples of advance are enough for 2 units at every pitch in order 1, and 42 in order 2; \
+                in order 3 39 are enough for A4 at 44,100 samples a second, and 64 for all but 147 of the 4,096 \
+                fractions of a sample.",
+        theorem: "own-literals",
+        proof: "crates/rule/proofs/OwnLiterals.antt",
+        states: "OwnLiterals",
+        statement: "crates/rule/specs/OwnLiterals.antt",
     },
     Promise {
         words: "No sample is left out: at each moment a change is in force and the figure holds of it, \

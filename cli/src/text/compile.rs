@@ -1,5 +1,6 @@
 //! Text to a score, with the places that its parts come from.
 
+use super::advance::{with_least, Advance};
 use super::compiler::{Compiler, Origin};
 use super::header::HeaderSpots;
 use super::line::{Fault, Line, Spot};
@@ -12,11 +13,18 @@ use jivaszte::Refusal;
 pub struct Compiled {
     pub score: Score,
     pub rate: u32,
+    pub advance: Advance,
+    sets_advance: bool,
     header: HeaderSpots,
     origins: Vec<Origin>,
 }
 
 impl Compiled {
+    /// The same, where the advance comes from this.
+    pub(super) fn with_advance(self, advance: Advance) -> Compiled {
+        Compiled { advance, ..self }
+    }
+
     /// The place in the text of what a run refuses at a record, or at the header.
     pub fn spot(&self, refusal: Refusal, record: Option<usize>) -> Spot {
         let Some(origin) = record.and_then(|record| self.origins.get(record)) else {
@@ -36,17 +44,29 @@ pub fn compile(text: &str, rate: Option<u32>) -> Result<Compiled, Vec<Fault>> {
 }
 
 /// Compiles a text with another rate, another advance, or both: a slide's steps take effect when they
-/// did.
+/// did. Where neither the text nor `instead` sets an advance, it is the least that is enough.
 pub fn compile_with(text: &str, instead: Instead) -> Result<Compiled, Vec<Fault>> {
+    let compiled = compile_once(text, instead)?;
+    match compiled.sets_advance || instead.advance.is_some() {
+        true => Ok(compiled),
+        false => with_least(text, instead),
+    }
+}
+
+/// Compiles a text; where no advance is set it is 0.
+pub fn compile_once(text: &str, instead: Instead) -> Result<Compiled, Vec<Fault>> {
     let mut compiler = Compiler::new(instead);
     let text = text.strip_prefix('\u{FEFF}').unwrap_or(text);
     let lines = (1..).zip(text.lines());
     let mut faults: Vec<Fault> =
         lines.filter_map(|(number, line)| compiler.line(Line::new(number, line)).err()).collect();
+    let sets_advance = compiler.sets_advance();
     match compiler.header {
         Some((header, spots)) if faults.is_empty() => Ok(Compiled {
             score: Score { header, records: compiler.records },
             rate: compiler.settings.rate,
+            advance: Advance::Set,
+            sets_advance,
             header: spots,
             origins: compiler.origins,
         }),

@@ -113,6 +113,11 @@ impl Compiler {
         self.tuning = tuning;
     }
 
+    /// Whether a line sets the advance.
+    pub fn sets_advance(&self) -> bool {
+        self.draft.sets_advance()
+    }
+
     fn advance(&self) -> u64 {
         self.header.map_or(0, |(header, _)| header.advance.into())
     }

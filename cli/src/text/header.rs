@@ -2,7 +2,6 @@
 
 use super::line::{Fault, Line, Spot, Word};
 use super::values::{self, Settings};
-use crate::click::best_advance;
 use crate::score::Header;
 use crate::tuning::{Tuning, DEFAULT_RATE, ORDERS, RATES};
 use jivaszte::Refusal;
@@ -66,10 +65,14 @@ impl Draft {
         self.order.map_or(DEFAULT_ORDER, |(order, _)| order)
     }
 
-    /// The header of a voice with this tuning, which was given at `tune`.
+    pub fn sets_advance(&self) -> bool {
+        self.advance.is_some()
+    }
+
+    /// The header of a voice with this tuning, which was given at `tune`; its advance is 0 where none is set.
     pub fn header(&self, tuning: Tuning, tune: Spot) -> (Header, HeaderSpots) {
         let order = self.order();
-        let advance = self.advance.map_or(best_advance(order.into()) as u8, |(advance, _)| advance);
+        let advance = self.advance.map_or(0, |(advance, _)| advance);
         let loss = self.loss.map_or(DEFAULT_LOSS, |(loss, _)| loss);
         let spots = HeaderSpots {
             order: self.order.map_or(tune, |(_, spot)| spot),

@@ -1,5 +1,6 @@
 //! Scores as text: one line for each record of the score, in words. docs/SCORES.md has the grammar.
 
+mod advance;
 mod compile;
 mod compiler;
 mod event;
@@ -10,6 +11,7 @@ mod slide;
 mod tunings;
 mod values;
 
+pub use advance::{changed_to, needed, Advance};
 pub use compile::{compile, compile_with, Compiled};
 pub use line::{Fault, Spot};
 pub use show::show;

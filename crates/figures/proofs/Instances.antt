@@ -17,7 +17,7 @@ use Rattle.rule.specs.History.{History, steps, read, step, call, after, new}
 use Rattle.rule.specs.State as State
 use Rattle.rule.specs.State.{fresh, puts}
 use Rattle.rule.specs.Click.{Change, announcing, instantly, committing, NoneBy}
-use Rattle.rule.proofs.Click.{click}
+use Rattle.rule.proofs.Click.{click, own-click}
 use Rattle.rule.proofs.Ruling.{none-block}
 use Rattle.figures.specs.Instances.{o, list, Instance, loud, zeros, quiet, late, lately, t}
 use Rattle.figures.specs.Instances.{Instances}
@@ -36,6 +36,7 @@ given pre c post t a e m k n l b p q = record {
   since = l;
   before = b;
   figure = click o (list pre c post) pre post c t a e m refl k n l b;
+  own = own-click o (list pre c post) pre post c t a e m refl k n l b;
   voice = p;
   filter = q;
 }

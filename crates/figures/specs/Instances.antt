@@ -5,11 +5,13 @@ use mathlib.Core.List.{List, [], _∷_, _++_}
 use Prim.Native.Nat.{ℕ, _≤_, _<_}
 use lib.IntN.{ℤ, pos, negsuc}
 use lib.ListN.{getD}
-use Rattle.rule.specs.Voice.{Tuning, tuning}
+use Rattle.thiran.specs.Coefficients.{norm}
+use Rattle.rule.specs.Voice.{Tuning, tuning, A}
 use Rattle.rule.specs.Calls.{Call, block, announce, instant, ask, commit, Opening}
 use Rattle.rule.specs.History.{read, steps, call, after, new}
 use Rattle.rule.specs.State.{fresh, puts}
 use Rattle.rule.specs.Click.{Change, NoneBy, Figure}
+use Rattle.rule.specs.OwnFigure.{OwnFigure}
 
 -- order 2, Na 2
 abbrev pub o : Opening
@@ -27,6 +29,7 @@ module _ (pre : List Call) (c : Call) (post : List Call) where
     pub since : e ≤ m
     pub before : m < steps (after o list)
     pub figure : Figure (puts (fresh o) list) (after o list .s) t a e m
+    pub own : OwnFigure (norm (A t)) (puts (fresh o) list) (after o list .s) t a e m
     pub voice : getD (puts (fresh o) list) m (pos 0) ≡ y
     pub filter : new t (after o list .s) m ≡ z
 
