@@ -41,7 +41,7 @@ static __attribute__((noinline)) int loud(const int32_t *input, uint32_t samples
     return loud;
 }
 
-static uint32_t block(Voice *v, const int32_t *input, uint32_t samples, int32_t *output, uint32_t room)
+uint32_t plain_block(Voice *v, const int32_t *input, uint32_t samples, int32_t *output, uint32_t room)
 {
     if (samples != room)
         return 9;
@@ -56,7 +56,7 @@ static uint32_t block(Voice *v, const int32_t *input, uint32_t samples, int32_t 
 static uint32_t call(Voice *v, const uint32_t *w, const int32_t *input, int32_t *output)
 {
     switch (w[0]) {
-    case JIVASZTE_CALL_BLOCK: return block(v, input, w[1], output, w[2]);
+    case JIVASZTE_CALL_BLOCK: return plain_block(v, input, w[1], output, w[2]);
     case JIVASZTE_CALL_LOSS: return set_loss(v, w[1]);
     case JIVASZTE_CALL_PLUCK: return pluck(v, w[1], w[2], w[3]);
     case JIVASZTE_CALL_ANNOUNCE: return change(v, w[1], w[2], w[3], ANNOUNCED);

@@ -202,6 +202,7 @@ uint32_t jivaszte_packed_block(uint32_t *head, int32_t *line, const int32_t *inp
                                size_t room);
 uint32_t jivaszte_packed_play(uint32_t *head, int32_t *line, int32_t *output, size_t count);
 uint32_t jivaszte_packed_waits(const uint32_t *head);
+uint32_t jivaszte_packed_check(const uint32_t *head, const int32_t *line);
 
 /* Opens a voice, whatever the memory held. Refuses by 1, 2, 3, 4, 5. */
 static inline uint32_t jivaszte_voice_open(jivaszte_voice *voice, uint32_t order, uint32_t length, uint32_t delay,
@@ -271,6 +272,13 @@ static inline uint32_t jivaszte_voice_play(jivaszte_voice *voice, int32_t *outpu
 static inline uint32_t jivaszte_voice_waits(const jivaszte_voice *voice)
 {
     return jivaszte_packed_waits(voice->head);
+}
+
+/* 1 where the memory is a voice that the calls above may be given, else 0, whatever it holds: for a voice that came from a
+   file or from another program. It takes as long as a block of some 64 samples. */
+static inline uint32_t jivaszte_voice_check(const jivaszte_voice *voice)
+{
+    return jivaszte_packed_check(voice->head, voice->line);
 }
 
 /* Plays a score on a voice of its own, whose order its changes keep. Refuses by 14, those of the opening (1, 2, 3, 5),

@@ -94,6 +94,7 @@ extern "C" {
         count: usize,
     ) -> u32;
     pub fn jivaszte_packed_waits(head: &[u32; 27]) -> u32;
+    pub fn jivaszte_packed_check(head: &[u32; 27], line: &[i32; 2112]) -> u32;
     pub fn jivaszte_run(
         score: *const u8,
         length: usize,

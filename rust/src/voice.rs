@@ -123,6 +123,11 @@ impl Voice {
     pub fn waits(&self) -> u32 {
         unsafe { c::jivaszte_packed_waits(&self.head) }
     }
+
+    /// Whether this is a voice by the library's own test, as it always is: for tests of a host.
+    pub fn check(&self) -> bool {
+        unsafe { c::jivaszte_packed_check(&self.head, &self.line) == 1 }
+    }
 }
 
 impl fmt::Debug for Voice {

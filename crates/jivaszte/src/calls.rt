@@ -2,6 +2,8 @@
 // they are jivaszte_voice_open and so on, over a pointer to both. What a call requires is the voice's invariant,
 // which Open gives and each call hands on, and which `jivaszte_packed_check` tests.
 ghost use mathlib.Core.Path.{_≡_};
+ghost use mathlib.Core.Logic.{_↔_};
+ghost use Prim.Native.Nat.{_≤_};
 ghost use lib.IntN.{pos};
 ghost use lib.ListN.{length, replicate};
 ghost use Rattle.rule.specs.Calls.{loss as Loss, pluck as Plucking, block as Block};
@@ -167,4 +169,13 @@ pub extern "C" fn jivaszte_packed_waits(head: &[u32; 27]) -> u32
     ensures { λ r. ⌜ r ≡ awaited (voiceOf (headOf (now (head .entry)))) ⌝ }
 {
     kept::waits::waits(head)
+}
+
+// 1 where the words and the line are a voice, else 0: for memory that came from elsewhere.
+#[no_mangle]
+pub extern "C" fn jivaszte_packed_check(head: &[u32; 27], line: &[i32; 2112]) -> u32
+    ensures { λ r. ⌜ r ≤ 1 ⌝ }
+    ensures { λ r. ⌜ (r ≡ 1) ↔ Valid (headOf (now (head .entry))) (now (line .entry)) ⌝ }
+{
+    kept::checks::check(head, line)
 }

@@ -1,1 +1,3 @@
 pub mod Awaited
+pub mod Limits
+pub mod Since

@@ -71,11 +71,11 @@ pub fn commit(head: &mut [u32; 27]) -> u32
     ensures { λ r. ⌜ Called (headOf (now (head .entry))) Commit (answerOf r (now (head .exit))) ⌝ }
 {
     let h = unpack(head);
-    let a = change::asked::commit(h);
-    let k = a.head;
+    let r = change::asked::commit(h);
+    let k = r.head;
     let w = pack(k);
     *head = w;
-    a.refusal
+    r.refusal
 }
 
 // Drops the change that was asked for.

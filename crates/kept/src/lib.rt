@@ -12,6 +12,7 @@ use packed::unpack;
 
 pub mod blocks;
 pub mod changes;
+pub mod checks;
 pub mod waits;
 
 // Opens a voice in the words and the line, whatever they held: a refused opening leaves the refusal voice.

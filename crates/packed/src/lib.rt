@@ -13,6 +13,7 @@ use crate::write::word_of;
 use voice::Head;
 use voice::Pluck;
 
+pub mod fits;
 mod read;
 mod write;
 

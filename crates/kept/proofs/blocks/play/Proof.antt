@@ -19,8 +19,8 @@ zeros-quiet (suc n) = omega (arith, zeros-quiet n)
 unpack-requires : tie.Need-unpack-requires
 unpack-requires c κs = search needs
 
-silent-requires : tie.Need-silent-requires
-silent-requires c κs = rw (c .before .before .unpack .ensures) (c .before .before .before .before .pre)
+unfed-requires : tie.Need-unfed-requires
+unfed-requires c κs = rw (c .before .before .unpack .ensures) (c .before .before .before .before .pre)
 
 pack-requires : tie.Need-pack-requires
 pack-requires c κs = search needs
@@ -38,12 +38,12 @@ returns c =
     let n = length (s .output .now) in
     let xs = replicate n (pos 0) in
     let e = plays (voiceOf h) xs n (length-replicate n (pos 0)) (zeros-quiet n) in
-    let f = b .silent .ensures in
-    let k = b .silent .last in
+    let f = b .unfed .ensures in
+    let k = b .unfed .last in
     rw (← u .unpack .ensures, c .pack .ensures) (
-      block-on h l xs n e (b .silent .result) (k .0) (f .1 .1) (f .0),
-      block-lent h l xs n e (k .1 .1 .0) (s .output .now) (f .1 .0),
+      block-on h l xs n e (b .unfed .result) (k .0) (f .valid) (f .after),
+      block-lent h l xs n e (k .1 .1 .0) (s .output .now) (f .out),
     )
 
 pub play-spec : {M : Type 1} → statement M
-play-spec = tie.close (tie.spec unpack-requires silent-requires pack-requires same-length returns)
+play-spec = tie.close (tie.spec unpack-requires unfed-requires pack-requires same-length returns)
