@@ -66,7 +66,7 @@ pub fn blocked(
 
 // A call that is no opening: a list has the same calls in the same order, with a block in the opening's place.
 fn set(line: &[i32; 2112], head: Head, l: Request) -> Made
-    requires { ⌜ Valid head (now line) × (1 < l .kind) ⌝ }
+    requires { ⌜ Valid head (now line) × (1 < l .kind) × (l .kind ≤ 8) ⌝ }
     ensures { λ r. ⌜ Valid (r .head) (now (line .entry)) ⌝ }
 {
     let c = list::one::call(line, head, l.kind - 1, l.a, l.b, l.c);
@@ -80,7 +80,7 @@ fn set(line: &[i32; 2112], head: Head, l: Request) -> Made
 
 // The call that a line asks for, where it lends nothing.
 pub fn call(line: &mut [i32; 2112], head: Head, l: Request) -> Made
-    requires { ⌜ Valid head (now line) × (0 < l .kind) ⌝ }
+    requires { ⌜ Valid head (now line) × (0 < l .kind) × (l .kind ≤ 8) ⌝ }
     ensures { λ r. ⌜ Valid (r .head) (now (line .exit)) ⌝ }
 {
     if l.kind == OPEN {

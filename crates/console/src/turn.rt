@@ -1,6 +1,6 @@
 // One line of the text: read, called and answered.
 // What a line lends is made for its call.
-ghost use Prim.Native.Nat.{_<_};
+ghost use Prim.Native.Nat.{_≤_, _<_};
 ghost use lib.ListN.{length};
 ghost use Rattle.voice.specs.Valid.{Valid};
 ghost use Rattle.request.specs.InLine.{InLine};
@@ -39,7 +39,7 @@ fn called(
     at: usize,
     l: Request,
 ) -> Turn
-    requires { ⌜ Valid head (now line) × (0 < l .kind) ⌝ }
+    requires { ⌜ Valid head (now line) × (0 < l .kind) × (l .kind ≤ 8) ⌝ }
     ensures { λ r. ⌜ Valid (r .head) (now (line .exit)) ⌝ }
 {
     let c = call(line, head, l);

@@ -22,7 +22,7 @@ returns c =
     (λ xs. record { made = c .instant .ensures .0; count = c .instant .ensures .1 })
 
 apart-requires : tie.Need-apart-requires
-apart-requires c κs = let s = c .before in (s .pre .0 .fit, s .pre .1, c .if1 .left)
+apart-requires c κs = let s = c .before in (s .pre .0 .fit, s .pre .1, c .if1 .left, s .pre .2)
 
 uncounted-requires : tie.Need-uncounted-requires
 uncounted-requires c κs = search needs

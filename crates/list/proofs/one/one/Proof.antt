@@ -98,7 +98,7 @@ returns-2 c =
 apart-requires : tie.Need-apart-requires
 apart-requires c κs =
     let e = c .before .before in
-    (e .before .before .pre .0 .fit, omega (arith, e .if1 .left), c .if2 .left)
+    let s = e .before .before in (s .pre .0 .fit, omega (arith, e .if1 .left), c .if2 .left, s .pre .1)
 
 returns-3 : tie.Need-returns-3
 returns-3 c =

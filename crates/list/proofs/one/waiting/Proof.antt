@@ -29,7 +29,10 @@ returns-2 c =
     known (a .head) (a .a) (a .b) (a .c) (c .ask .result) 5 (t .if2 .taken) (λ xs. c .ask .ensures)
 
 ended-requires : tie.Need-ended-requires
-ended-requires c κs = search needs
+ended-requires c κs =
+    let j = c .before in
+    let s = j .before in
+    (s .pre .0, omega (arith, s .pre .1, s .pre .2, j .if1 .left, c .if2 .left), s .pre .3)
 
 returns-3 : tie.Need-returns-3
 returns-3 c =
