@@ -49,12 +49,12 @@ pub extern "C" fn jivaszte_effective_length(
     order: u32,
     d: u32,
     threshold: u32,
-    length: &mut u32,
+    effective: &mut u32,
 ) -> u32
-    ensures { λ r. ⌜ record { refusal = r; length = now (length .exit) } ≡ effectiveLength order d threshold ⌝ }
+    ensures { λ r. ⌜ record { refusal = r; length = now (effective .exit) } ≡ effectiveLength order d threshold ⌝ }
 {
     let m = allpass::effective_length(order, d, threshold);
-    *length = m.length;
+    *effective = m.length;
     m.refusal
 }
 
@@ -74,14 +74,14 @@ pub extern "C" fn jivaszte_note(
     order: u32,
     rate: u32,
     note: u32,
-    length: &mut u32,
+    span: &mut u32,
     delay: &mut u32,
 ) -> u32
-    ensures { λ r. ⌜ record { refusal = r; length = now (length .exit); delay = now (delay .exit) }
+    ensures { λ r. ⌜ record { refusal = r; length = now (span .exit); delay = now (delay .exit) }
         ≡ pitch order rate note ⌝ }
 {
     let p = pitch::note(order, rate, note);
-    *length = p.length;
+    *span = p.length;
     *delay = p.delay;
     p.refusal
 }
@@ -119,7 +119,7 @@ pub extern "C" fn jivaszte_gather(bytes: &[u8], start: usize) -> u64
 #[no_mangle]
 pub extern "C" fn jivaszte_perform(
     order: u32,
-    length: u32,
+    span: u32,
     delay: u32,
     loss: u32,
     advance: u32,
@@ -131,7 +131,7 @@ pub extern "C" fn jivaszte_perform(
     written: &mut usize,
 ) -> u32
     ensures { λ r. ⌜ Performs
-        (record { N = order; L = length; d = delay; G = loss; Na = advance })
+        (record { N = order; L = span; d = delay; G = loss; Na = advance })
         (now (words .entry))
         (now (input .entry))
         (now (output .entry))
@@ -142,7 +142,7 @@ pub extern "C" fn jivaszte_perform(
 {
     let p = list::perform(
         order,
-        length,
+        span,
         delay,
         loss,
         advance,
