@@ -13,7 +13,7 @@ use Rattle.rule.specs.Voice.{announced, asked, noise, spent, output, written, s
 use Rattle.rule.specs.Calls.{announce, ask, commit, number, count, opened, done}
 use Rattle.rule.specs.History as History
 use Rattle.rule.specs.History.{read, after}
-use Rattle.rule.specs.State.{step, sounds, call, put, silence, fresh}
+use Rattle.rule.specs.State.{State, step, sounds, call, put, silence, fresh}
 use Rattle.rule.specs.Valid.{Whole}
 use Rattle.rule.specs.Demands.{Awaited, Pending, announcement, request}
 use Rattle.rule.proofs.Keeps.{none-some, same-some, announced-asked}
@@ -23,7 +23,8 @@ use Rattle.rule.proofs.Pedal.{pedals}
 use Rattle.rule.proofs.Withdrawn.{withdraws}
 use Rattle.rule.proofs.Itself.{commits-itself}
 use Rattle.instances.specs.Pedals.{o, t, pre, two, three, Waiting, Pedalling, loud, between, zeros}
-use Rattle.instances.specs.Pedals.{Withdrawing, start, mid, Committing}
+use Rattle.instances.specs.Pedals.{dropped, left, Withdrawing, start, mid, slid, retuned, Committing}
+use Rattle.instances.specs.Live.{Gives}
 
 -- 20 and 21 are refusals
 not-20 : _≡_ {A = ℕ} 20 0 → ⊥
@@ -84,11 +85,21 @@ pub withdrawing : Withdrawing
 unfolding
     call step put sounds silence number count opened done stepped settled output written Q noise spent
     coefficients coefficient a factor nearest floor cut R clip inner next out
-withdrawing = record {
-  withdrawn = withdraws o loud between zeros t refl (tt, (tt, (not-20, (tt, tt))));
-  with-ask = record { outputs = refl; codes = refl; runs = refl; voice = refl };
-  without-ask = record { outputs = refl; codes = refl; runs = refl; voice = refl };
-}
+withdrawing =
+    let w = withdraws o loud between zeros t refl (tt, (tt, (not-20, (tt, tt)))) in
+    let y : Gives (fresh o) (loud ++ (between ++ zeros)) dropped (0 ∷ 0 ∷ 0 ∷ 21 ∷ 0 ∷ 0 ∷ [])
+    (0 ∷ 0 ∷ 0 ∷ 0 ∷ 0 ∷ 0 ∷ []) left
+    = record { outputs = refl; codes = refl; runs = refl; voice = refl } in
+    record {
+      withdrawn = w;
+      with-ask = record {
+        outputs = w .outputs ∙ y .outputs;
+        codes = refl;
+        runs = refl;
+        voice = ap (λ (v : State). v .voice) (w .state) ∙ y .voice;
+      };
+      without-ask = y;
+    }
 
 whole : Whole start
 whole = from-whole loud (fresh (record { N = 1; L = 3; d = 4500; G = 60000; Na = 2 })) (fresh-whole _)
@@ -97,8 +108,18 @@ pub committing : Committing
 unfolding
     call step put sounds silence number count opened done stepped settled output written Q noise spent
     coefficients coefficient a factor nearest floor cut R clip inner next out
-committing = record {
-  itself = commits-itself start t mid whole refl (tt, (tt, (not-20, (tt, tt)))) refl zeros;
-  announced = record { outputs = refl; codes = refl; runs = refl; voice = refl };
-  asked-for = record { outputs = refl; codes = refl; runs = refl; voice = refl };
-}
+committing =
+    let e = commits-itself start t mid whole refl (tt, (tt, (not-20, (tt, tt)))) refl zeros in
+    let y : Gives start (announce t ∷ (mid ++ zeros)) slid (0 ∷ 0 ∷ 0 ∷ 21 ∷ 0 ∷ 0 ∷ [])
+    (0 ∷ 0 ∷ 0 ∷ 0 ∷ 0 ∷ 0 ∷ []) retuned
+    = record { outputs = refl; codes = refl; runs = refl; voice = refl } in
+    record {
+      itself = e;
+      announced = y;
+      asked-for = record {
+        outputs = sym (e .outputs) ∙ y .outputs;
+        codes = refl;
+        runs = refl;
+        voice = sym (ap (λ (v : State). v .voice) (e .state)) ∙ y .voice;
+      };
+    }

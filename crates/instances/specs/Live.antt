@@ -6,11 +6,11 @@ use mathlib.Core.List.{List, [], _∷_, _++_}
 use mathlib.Core.Option.{none}
 use Prim.Native.Nat.{ℕ}
 use lib.IntN.{ℤ, pos, negsuc}
-use lib.ListN.{replicate}
+use lib.ListN.{length, replicate}
 use Rattle.rule.specs.Voice.{Tuning, tuning, Voice, silent}
 use Rattle.rule.specs.Calls.{Opening, Call, block, loss, pluck, announce, instant, commit, withdraw}
 use Rattle.rule.specs.State.{State, fresh, from, puts, numbers, counts}
-use Rattle.rule.specs.Live.{announcing, living, Ahead, Live, Due, Meets}
+use Rattle.rule.specs.Live.{without, announcing, living, Ahead, Live, Due, Meets}
 
 -- what a list puts out, returns and counts, and the voice that it leaves
 pub record Gives (v : State) (cs : List Call) (ys : List ℤ) (ns ks : List ℕ) (u : Voice) : Type 0 where
@@ -26,6 +26,9 @@ module _ (o : Opening) (pre : List Call) (to : Tuning) (mid post : List Call) wh
     pub live : Live o pre to mid post
     pub announced : Gives (fresh o) (announcing o pre to mid post) ys ns ks u
     pub instantly : Gives (fresh o) (living o pre to mid post) ys ms js u
+    -- but for the change's own
+    pub same-codes : without (length pre) ns ≡ without (length (pre ++ mid)) ms
+    pub same-runs : without (length pre) ks ≡ without (length (pre ++ mid)) js
 
 abbrev pub loud : List Call
 loud = block (pos 1000000 ∷ negsuc 1999999 ∷ pos 500000 ∷ []) 3 ∷ []
@@ -81,6 +84,8 @@ pub record Stored (to : Tuning) (ys : List ℤ) (ns ms ks js : List ℕ) (u : Vo
   pub meets : Meets stored to one three
   pub announced : Gives stored (announce to ∷ (one ++ three)) ys ns ks u
   pub instantly : Gives stored (one ++ instant to ∷ three) ys ms js u
+  pub same-codes : without 0 ns ≡ without 1 ms
+  pub same-runs : without 0 ks ≡ without 1 js
 
 pub record Lives : Type 0 where
   pub orders :
