@@ -26,6 +26,9 @@ pub struct History {
     pub changes: Vec<Change>,
 }
 
+/// The greatest difference allowed at j.
+type Bound = Box<dyn Fn(usize) -> i128>;
+
 /// How much was compared: changes with at least one step, those of them to a higher and to a lower
 /// order, those that were committed after more samples than Na, the steps of all, the steps at which
 /// equality was claimed, and the steps at which y and the new filter differed.
@@ -97,12 +100,17 @@ impl History {
     }
 
     /// "The new filter has the change's L' and d'", and its order, "is at rest before step 0 and takes
-    /// s(m − L') at every step m from 0. What is compared is y at step m". From e to before step `end`; by the
-    /// figure, and by the own figure of the change's tuning.
-    fn compare(&self, change: &Change, end: usize, tally: &mut Tally) -> Result<(), String> {
+    /// s(m − L') at every step m from 0. What is compared is y at step m". From e to before step `end`; `bound`
+    /// is the figure at j.
+    fn compare(
+        &self,
+        change: &Change,
+        end: usize,
+        bound: Bound,
+        tally: &mut Tally,
+    ) -> Result<(), String> {
         let equal = self.read_zeros(change);
         let Tuning { order, length, delay } = change.to;
-        let own = OwnFigures::of(order, delay);
         let mut new_filter = change.to.at_rest();
         for m in 0..end {
             let new = new_filter.filter(s_at(&self.s, m as i128 - i128::from(length)));
@@ -112,7 +120,7 @@ impl History {
             let j = m - change.effect;
             let allowed = match equal {
                 true => 0,
-                false => figure(order, change.taken, j).min(own.figure(change.taken, j)),
+                false => bound(j),
             };
             let difference = (self.y[m] - new).abs();
             if difference > allowed {
@@ -141,11 +149,28 @@ impl History {
     /// same e, the one called later is in force": the earlier one has no step. No change is
     /// accepted while another waits, so that e never falls along the list.
     pub fn check(&self, tally: &mut Tally) -> Result<(), String> {
+        let by_figure = |change: &Change| -> Bound {
+            let (order, taken) = (change.to.order, change.taken);
+            Box::new(move |j| figure(order, taken, j))
+        };
+        self.check_by(by_figure, tally)
+    }
+
+    /// The same by the own figure of each change's tuning (docs/CLICK.md).
+    pub fn check_own(&self) -> Result<(), String> {
+        let by_own = |change: &Change| -> Bound {
+            let (own, taken) = (OwnFigures::of(change.to.order, change.to.delay), change.taken);
+            Box::new(move |j| own.figure(taken, j))
+        };
+        self.check_by(by_own, &mut Tally::default())
+    }
+
+    fn check_by(&self, bound: impl Fn(&Change) -> Bound, tally: &mut Tally) -> Result<(), String> {
         let mut order = self.order;
         for (index, change) in self.changes.iter().enumerate() {
             let next = self.changes.get(index + 1).map_or(self.y.len(), |next| next.effect);
             let end = next.min(self.y.len());
-            self.compare(change, end, tally)?;
+            self.compare(change, end, bound(change), tally)?;
             if change.effect < end {
                 self.count(change, order, tally);
             }

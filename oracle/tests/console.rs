@@ -50,6 +50,8 @@ fn routines() {
         ("length 2 9159 1000", "length 0 4"),
         ("note 2 44100 69", "note 0 98 7075"),
         ("draw 0", "draw -17298 1013904223"),
+        ("least 3 11171 2", "least 0 39"),
+        ("least 3 10241 2", "least 32 0"),
         ("record 23 01 00 02 00 03 00 ff", "record 15 0 0 0 0 0 0 0 0 8"),
         ("record 13 01 00 02 00 03 00 ff", "record 0 19 1 2 0 0 3 0 0 1"),
         ("record 13 01 00 02 00 03", "record 14 0 0 0 0 0 0 0 0 6"),
@@ -119,6 +121,6 @@ fn calls_are_listed() {
     assert!(
         listed.starts_with("help open takes N L D G NA; loss takes G; pluck takes A COUNT SEED; ")
     );
-    assert!(listed.ends_with("; gather takes START B1 B2 ..; help takes nothing\n"));
-    assert_eq!(listed.split("; ").count(), 21);
+    assert!(listed.ends_with("; least takes N D WANTED; help takes nothing\n"));
+    assert_eq!(listed.split("; ").count(), 22);
 }

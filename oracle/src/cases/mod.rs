@@ -93,9 +93,12 @@ impl Report {
         }
     }
 
-    /// Demand 3 on each list of calls.
+    /// Demand 3 on each list of calls, and the own figure.
     fn check_lists(&mut self, lists: Vec<(Voice, Vec<Call>)>) -> Result<(), String> {
-        lists.iter().try_for_each(|(opened, list)| history(opened, list).check(&mut self.tally))
+        lists.iter().try_for_each(|(opened, list)| {
+            let history = history(opened, list);
+            history.check(&mut self.tally).and_then(|()| history.check_own())
+        })
     }
 
     /// The score of case `index` and what the player must print; demand 3 is checked on its calls.
