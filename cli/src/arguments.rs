@@ -1,6 +1,7 @@
 //! The words of a call: its files or names, and its options.
 
 use crate::click::MOST_ADVANCE;
+use crate::decimal::Decimal;
 use crate::failure::{Failure, Outcome};
 use crate::options::{missing, option, takes_value, unknown};
 use crate::say::quoted;
@@ -91,12 +92,31 @@ impl Arguments {
         text.split(',').map(read).collect()
     }
 
+    /// The most samples that a string may ring after the score, from seconds.
+    pub fn ring(&self, rate: u32) -> Outcome<Option<u64>> {
+        let Some(value) = self.value('R') else { return Ok(None) };
+        let value = value.to_string_lossy();
+        let samples = Decimal::parse(&value).map(|seconds| seconds.times(rate.into(), 1));
+        let samples = samples.and_then(|samples| u64::try_from(samples).ok());
+        let wrong = || format!("--ring takes seconds, as 5 or 2.5, not `{}`", quoted(&value));
+        samples.map(Some).ok_or_else(|| Failure::call(wrong()))
+    }
+
+    /// The recording that comes into the string.
+    pub fn through(&self) -> Option<PathBuf> {
+        self.value('t').map(PathBuf::from)
+    }
+
+    pub fn json(&self) -> bool {
+        self.value('j').is_some()
+    }
+
     pub fn click(&self) -> bool {
         self.value('c').is_some()
     }
 
     pub fn table(&self) -> bool {
-        self.value('t').is_some()
+        self.value('T').is_some()
     }
 
     pub fn delay(&self, delays: RangeInclusive<u32>) -> Outcome<Option<u32>> {

@@ -10,13 +10,13 @@ pub struct Decimal {
 }
 
 impl Decimal {
-    /// The number that a word starts with, and the rest of the word: `0.5s` is 0.5 and `s`.
+    /// The number that a word starts with, and the rest of the word: `0.5s` and `.5s` are 0.5 and `s`.
     pub fn prefix(word: &str) -> Option<(Decimal, &str)> {
         let end = word.find(|c: char| !c.is_ascii_digit() && c != '.').unwrap_or(word.len());
         let (number, rest) = word.split_at(end);
         let (whole, fraction) = number.split_once('.').unwrap_or((number, ""));
         let digits = format!("{whole}{fraction}");
-        if whole.is_empty() || number.ends_with('.') || digits.len() > MOST_DIGITS {
+        if digits.is_empty() || number.ends_with('.') || digits.len() > MOST_DIGITS {
             return None;
         }
         let places = fraction.len() as u32;
@@ -80,7 +80,10 @@ mod tests {
         assert_eq!(Decimal::parse("7").and_then(Decimal::whole), Some(7));
         assert_eq!(Decimal::parse("7.00").and_then(Decimal::whole), Some(7));
         assert_eq!(Decimal::parse("7.01").and_then(Decimal::whole), None);
-        for wrong in ["", ".5", "5.", "1.2.3", "s", "-1", "+1", "1e3", "1234567890123", "٣"] {
+        assert_eq!(Decimal::prefix(".5s"), Some((half, "s")));
+        for wrong in
+            ["", ".", "5.", ".5.", "..5", "1.2.3", "s", "-1", "+1", "1e3", "1234567890123", "٣"]
+        {
             assert_eq!(Decimal::parse(wrong), None, "{wrong}");
         }
     }

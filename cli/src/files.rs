@@ -92,6 +92,11 @@ pub fn print_bytes(bytes: &[u8]) -> Outcome {
     }
 }
 
+/// Whether what is written takes the place of a file at once, or not at all.
+pub fn is_replaced(path: &Path) -> bool {
+    !is_standard(path) && fs::metadata(path).map_or(true, |found| found.is_file() || found.is_dir())
+}
+
 pub fn is_standard(path: &Path) -> bool {
     path == Path::new(STANDARD)
 }

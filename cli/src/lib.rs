@@ -1,5 +1,6 @@
-//! Scores in words, and takes as WAV files. What sounds comes from the proved library: its run of a
-//! score, its record reader, its notes and its writer of WAV files. Files and words are done here.
+//! Scores in words, and takes as WAV files. What sounds comes from the proved library: its calls on a kept
+//! voice, its run of a score, its record reader, its notes and its writer of WAV files. Files and words are
+//! done here.
 
 pub mod arguments;
 pub mod bytes;
@@ -10,13 +11,16 @@ pub mod enough;
 pub mod failure;
 pub mod files;
 pub mod ideal;
+pub mod json;
 pub mod kind;
+pub mod meter;
 pub mod new_file;
 pub mod note;
 pub mod number;
 pub mod options;
 pub mod page;
 pub mod pitch;
+pub mod player;
 pub mod plot;
 pub mod progress;
 pub mod recording;
@@ -25,6 +29,7 @@ pub mod say;
 pub mod score;
 pub mod signals;
 pub mod sounding;
+pub mod source;
 pub mod take;
 pub mod text;
 pub mod timeline;

@@ -5,14 +5,17 @@ use crate::say::quoted;
 use std::ffi::OsString;
 
 /// The options: the letter, the long name, and what follows it, if anything does.
-pub const OPTIONS: [(char, &str, &str); 7] = [
+pub const OPTIONS: [(char, &str, &str); 10] = [
     ('o', "output", "a file"),
     ('r', "rate", "a rate"),
     ('a', "advance", "an advance"),
     ('n', "order", "an order"),
     ('d', "delay", "a delay"),
     ('c', "click", ""),
-    ('t', "table", ""),
+    ('T', "table", ""),
+    ('R', "ring", "seconds"),
+    ('t', "through", "a WAV file"),
+    ('j', "json", ""),
 ];
 /// The letter of an option, and its value where the same word has it: `-r48000`, `--rate=48000`.
 pub fn option(command: &str, text: &str, letters: &str) -> Outcome<(char, Option<OsString>)> {

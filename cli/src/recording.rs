@@ -4,7 +4,6 @@
 use crate::failure::{Failure, Outcome};
 use crate::files;
 use crate::new_file::NewFile;
-use crate::number::grouped;
 use crate::refusal::message;
 use jivaszte::{wav_size, wav_write, Refusal, MOST_SAMPLES};
 use std::path::Path;
@@ -59,12 +58,8 @@ pub struct Recording {
 }
 
 impl Recording {
+    /// At most `LONGEST` samples.
     pub fn create(path: &Path, rate: u32, samples: u64) -> Outcome<Recording> {
-        if samples > LONGEST {
-            let (length, most) = (grouped(samples), grouped(LONGEST));
-            let words = format!("a take of {length} samples is too long: a WAV file holds {most}");
-            return Err(Failure::input(words));
-        }
         let mut target = match files::is_standard(path) {
             true => Target::Standard,
             false => Target::File(NewFile::create(path)?),
@@ -134,8 +129,5 @@ mod tests {
         assert_eq!(LONGEST, 1_431_655_752);
         assert_eq!(sizes(LONGEST), [4_294_967_292, 4_294_967_256]);
         assert_eq!(sizes(LONGEST - 1), [4_294_967_290, 4_294_967_253]);
-        let path = Path::new("nowhere/take.wav");
-        let refused = Recording::create(path, 8_000, LONGEST + 1).err().unwrap();
-        assert!(refused.message.contains("is too long"));
     }
 }

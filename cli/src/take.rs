@@ -1,7 +1,6 @@
 //! A take: what the proved run of a score puts out.
 
 use crate::bytes::{records, HEADER_BYTES};
-use crate::number::counted;
 use jivaszte::{Refusal, Stopped};
 
 /// M, the greatest sample.
@@ -62,14 +61,6 @@ pub fn clipped(samples: &[i32]) -> Option<Clipped> {
     let full = |sample: &i32| sample.abs() >= FULL_SCALE;
     let first = samples.iter().position(full)?;
     Some(Clipped { count: samples.iter().filter(|sample| full(sample)).count(), first })
-}
-
-impl Clipped {
-    pub fn words(&self, rate: u32) -> String {
-        let (count, at) =
-            (counted(self.count as u64, "sample"), self.first as f64 / f64::from(rate));
-        format!("clipped: {count} at full scale, the first at {at:.3} s: pluck more softly")
-    }
 }
 
 #[cfg(test)]

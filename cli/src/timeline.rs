@@ -4,7 +4,7 @@ use crate::score::{Change, Score};
 use crate::tuning::Tuning;
 
 /// The count of a pluck whose record has none.
-const ABSENT_COUNT: u16 = 100;
+pub const ABSENT_COUNT: u16 = 100;
 
 #[derive(Clone, Copy, Debug, PartialEq, Eq)]
 pub struct Plucked {
@@ -94,7 +94,7 @@ mod tests {
 
     #[test]
     fn changes_take_effect_when_they_do() {
-        let text = "order 1\nadvance 24\ntune L 99 d 4096\npluck 9 for 7\nwait 10 samples, to L 98\n\
+        let text = "order 1\nadvance 24\ntune L 99 d 4096\npluck 9 for 7 seed 0\nwait 10 samples, to L 98\n\
                     wait 30 samples, loss 0.5, jump d 4000, pluck 3 seed 2\nwait 5 samples, to L 1\n";
         let timeline = Timeline::of(&compile(text, None).unwrap().score);
         let tuning = |length, delay| Tuning { length, delay };

@@ -5,6 +5,8 @@ use crate::failure::{Failure, Outcome};
 use crate::files;
 use crate::kind::{self, looks_like_text};
 use crate::number::grouped;
+use crate::player::{Player, Stop, Studio};
+use crate::recording::LONGEST;
 use crate::refusal;
 use crate::score::Score;
 use crate::take::{self, Refused};
@@ -64,6 +66,16 @@ impl Tune {
         self.text.as_ref().map_or(Advance::Set, |text| text.advance)
     }
 
+    /// What is worth a word though it can be played: the first with its place, and how many there are.
+    pub fn remark(&self) -> Option<String> {
+        let remarks = self.text.as_ref().map_or(&[][..], |text| &text.remarks);
+        let first = located(&self.name, remarks.first()?);
+        match remarks.len() - 1 {
+            0 => Some(first),
+            more => Some(format!("{first}; so may {more} more")),
+        }
+    }
+
     /// Runs the score by the proved library; gives the take.
     pub fn run(&self) -> Outcome<Vec<i32>> {
         let length = take::length(&self.bytes);
@@ -74,9 +86,33 @@ impl Tune {
         let take = take::run(&self.bytes, room);
         let take = take.map_err(|refused| Failure::input(self.refused(refused)))?;
         match take.is_empty() {
-            true => Err(Failure::input(format!("{}: the take is empty: nothing waits", self.name))),
+            true => Err(self.empty()),
             false => Ok(take),
         }
+    }
+
+    /// The samples that its waits take.
+    pub fn length(&self) -> u64 {
+        take::length(&self.bytes)
+    }
+
+    /// Plays the score block by block; then lets the string ring until it is quiet, at most so many samples.
+    pub fn play(&self, studio: &mut dyn Studio, ring: Option<u64>) -> Outcome {
+        let length = self.length() + ring.unwrap_or(0);
+        if length > LONGEST {
+            let (length, most) = (grouped(length), grouped(LONGEST));
+            let words = format!("a take of {length} samples is too long: a WAV file holds {most}");
+            return Err(Failure::input(format!("{}: {words}", self.name)));
+        }
+        match Player::play(&self.bytes, studio) {
+            Ok(mut player) => ring.map_or(Ok(()), |most| player.ring(most, self.rate, studio)),
+            Err(Stop::Refused(refused)) => Err(Failure::input(self.refused(refused))),
+            Err(Stop::Failed(failure)) => Err(failure),
+        }
+    }
+
+    pub fn empty(&self) -> Failure {
+        Failure::input(format!("{}: the take is empty: nothing waits", self.name))
     }
 
     /// What was refused, with its place: line and column of a text, index and offset of a record.

@@ -3,6 +3,8 @@
 mod common;
 
 use common::Random;
+use jivaszte_cli::failure::Outcome;
+use jivaszte_cli::player::{Player, Stop, Studio};
 use jivaszte_cli::score::{Change, Header, Pluck, Record, Score};
 use jivaszte_cli::take;
 use jivaszte_cli::text::{compile, show};
@@ -77,6 +79,46 @@ fn score(random: &mut Random, rate: u32) -> Score {
     };
     let count = random.below(20);
     Score { header, records: (0..count).map(|_| record(random)).collect() }
+}
+
+/// What a studio gets.
+#[derive(Default)]
+struct Tape(Vec<i32>);
+
+impl Studio for Tape {
+    fn samples(&mut self, samples: &[i32]) -> Outcome {
+        self.0.extend(samples);
+        Ok(())
+    }
+}
+
+/// Block by block on a kept voice, a score gives the samples of its proved run, or is refused as it is.
+#[test]
+fn played_as_it_runs() {
+    let (mut played, mut refused) = (0, 0);
+    for seed in 0..600 {
+        let mut random = Random::new(seed);
+        let mut score = score(&mut random, 44_100);
+        score.records.iter_mut().for_each(|record| record.wait = record.wait.map(|w| w % 20_000));
+        let mut bytes = score.encode();
+        if random.one_in(4) {
+            bytes.truncate(random.below(bytes.len() as u64) as usize);
+        }
+        let run = take::run(&bytes, take::room(take::length(&bytes)).unwrap());
+        let mut tape = Tape::default();
+        match (Player::play(&bytes, &mut tape), run) {
+            (Ok(_), Ok(samples)) => {
+                assert!(tape.0 == samples, "seed {seed}");
+                played += samples.len();
+            }
+            (Err(Stop::Refused(by)), Err(run)) => {
+                assert_eq!(by, run, "seed {seed}");
+                refused += 1;
+            }
+            (_, run) => panic!("seed {seed}: {run:?}"),
+        }
+    }
+    assert!(played > 500_000 && refused > 100, "{played} {refused}");
 }
 
 #[test]

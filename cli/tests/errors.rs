@@ -4,7 +4,9 @@
 mod common;
 
 use common::Folder;
-use std::fs;
+use jivaszte_cli::recording;
+use std::fs::{self, File};
+use std::io::Write;
 use std::os::unix::fs::PermissionsExt;
 use std::path::Path;
 use std::process::{Command, Stdio};
@@ -48,14 +50,21 @@ fn parts(folder: &Path) -> usize {
     names.filter(|name| name.to_string_lossy().ends_with(".part")).count()
 }
 
-/// Each signal that ends the program, sent while the file is being written.
+/// Signals that end the program, sent while it waits for a recording that never comes.
 #[test]
 fn a_signal_leaves_no_part_of_a_file() {
     let folder = Folder::new("signal");
-    fs::write(folder.join("tune.txt"), "tune A3\nwait 1000s\n").unwrap();
+    fs::write(folder.join("tune.txt"), "rate 8000\ntune A3\nwait 10s\n").unwrap();
+    let made = Command::new("mkfifo").arg(folder.join("in.wav")).status().unwrap();
+    assert!(made.success());
+    let pipe = File::options().read(true).write(true).open(folder.join("in.wav"));
+    let mut pipe = pipe.unwrap();
     for signal in ["INT", "TERM", "HUP"] {
-        let call = ["play", "tune.txt", "-o", "take.wav"];
-        let mut child = Command::new(PROGRAM)
+        pipe.write_all(&recording::header(8_000, 80_000).unwrap()).unwrap();
+        let call = ["play", "tune.txt", "-o", "take.wav", "--through", "in.wav"];
+        // A shell that runs the tests in the background has them ignored, and so would the program.
+        let mut child = Command::new("env")
+            .args(["--default-signal=HUP,INT,TERM", PROGRAM])
             .args(call)
             .current_dir(&*folder)
             .stderr(Stdio::null())
@@ -63,9 +72,7 @@ fn a_signal_leaves_no_part_of_a_file() {
             .unwrap();
         let start = Instant::now();
         while parts(&folder) == 0 {
-            assert!(
-                start.elapsed() < Duration::from_secs(60) && child.try_wait().unwrap().is_none()
-            );
+            assert!(start.elapsed() < Duration::from_secs(60));
             std::thread::sleep(Duration::from_millis(1));
         }
         let kill = [format!("-{signal}"), child.id().to_string()];

@@ -74,8 +74,9 @@ fn measured(samples: &[i32], hertz: f64) -> f64 {
 fn strings_sound_at_the_pitch_that_is_told() {
     for order in ORDERS {
         for name in ["E2", "A3", "A4", "C#5", "A5", "E6", "A6+30c"] {
-            let text =
-                format!("order {order}\nloss 0.9999\ntune {name}\npluck 120 for 60\nwait 1.2s\n");
+            let text = format!(
+                "order {order}\nloss 0.9999\ntune {name}\npluck 120 for 60 seed 0\nwait 1.2s\n"
+            );
             let take = play(&text).unwrap().unwrap();
             let tuning = Pitch::named(name).unwrap().tuning(order, RATE).unwrap();
             let told = sounding::hertz(order, RATE, tuning).unwrap();

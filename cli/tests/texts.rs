@@ -25,9 +25,10 @@ const LOSSES: [&str; 5] = ["0", "1", "0.996", "0.12345", "65000 units"];
 const PLUCKS: [&str; 5] =
     ["200", "255 for 7", "0 seed 9", "90 for 2048 seed 65535", "7 count absent"];
 /// Words that stand anywhere in a wrong text.
-const WORDS: [&str; 24] = [
+const WORDS: [&str; 27] = [
     "wait", "pluck", "to", "jump", "slide", "loss", "tune", "rate", "order", "advance", "tempo",
     "over", "steps", "for", "seed", "L", "d", ",", "#", "A4", "0.5s", "7", "♯", "nothing",
+    "vibrato", "repeat", "end",
 ];
 
 fn event(random: &mut Random) -> String {

@@ -5,7 +5,8 @@ use jivaszte::{note, perform, wav_file, Call, Opening, Refusal};
 
 const RATE: u32 = 44_100;
 const ORDER: u32 = 1;
-/// From this advance on no change can be heard.
+/// From this advance on no sample after a change is further than 2 units of 8,388,607 from that of an ideal
+/// filter of the new tuning. The step from one tuning to the other remains.
 const ADVANCE: u32 = 24;
 
 /// So many seconds of nothing but the string.

@@ -1,5 +1,6 @@
 //! `advance`: what each advance buys, by the sheet's figure and by the tuning's own, and the proved least.
 
+use super::advance_json;
 use crate::arguments::Arguments;
 use crate::click::{best_advance, figure, greatest_own_figure, least_advance, own_figure};
 use crate::click::{samples_to_best, MOST_ADVANCE, WITHIN};
@@ -33,6 +34,9 @@ pub fn run(arguments: &Arguments) -> Outcome {
     }
     let order = order.ok_or_else(|| Failure::call("advance needs a score, or -n ORDER"))?;
     let delay = arguments.delay(delays(order))?;
+    if arguments.json() {
+        return print(&advance_json::json(order, delay));
+    }
     let parts = [figures(order, delay), lengths(order, delay), advice(order, delay)];
     print(&parts.join("\n"))
 }

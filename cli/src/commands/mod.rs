@@ -1,6 +1,7 @@
 //! The commands of the program.
 
 mod advance;
+mod advance_json;
 mod check;
 mod compile;
 mod note;
@@ -19,14 +20,14 @@ use std::ffi::OsString;
 type Command = (&'static str, &'static str, &'static str, fn(&Arguments) -> Outcome);
 
 pub const COMMANDS: [Command; 8] = [
-    ("play", "ora", include_str!("help/play.txt"), play::run),
+    ("play", "oraRt", include_str!("help/play.txt"), play::run),
     ("plot", "orac", include_str!("help/plot.txt"), plot::run),
     ("page", "o", include_str!("help/page.txt"), page::run),
     ("compile", "or", include_str!("help/compile.txt"), compile::run),
     ("show", "r", include_str!("help/show.txt"), show::run),
-    ("check", "r", include_str!("help/check.txt"), check::run),
-    ("note", "rn", include_str!("help/note.txt"), note::run),
-    ("advance", "ndrt", include_str!("help/advance.txt"), advance::run),
+    ("check", "rj", include_str!("help/check.txt"), check::run),
+    ("note", "rnj", include_str!("help/note.txt"), note::run),
+    ("advance", "ndrTj", include_str!("help/advance.txt"), advance::run),
 ];
 
 const HELP: &str = include_str!("help/all.txt");

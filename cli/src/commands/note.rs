@@ -3,6 +3,7 @@
 use crate::arguments::Arguments;
 use crate::failure::{Failure, Outcome};
 use crate::files::print;
+use crate::json::object;
 use crate::pitch::cents_above;
 use crate::refusal::message;
 use crate::sounding;
@@ -31,6 +32,16 @@ pub fn run(arguments: &Arguments) -> Outcome {
     let sounds =
         sounding::hertz(order, rate, tuning).map_err(|refusal| Failure::input(message(refusal)))?;
     let cents = cents_above(sounds, hertz);
+    if arguments.json() {
+        let fields = [
+            ("length", tuning.length.to_string()),
+            ("delay", tuning.delay.to_string()),
+            ("asked_Hz", format!("{hertz:.3}")),
+            ("sounds_Hz", format!("{sounds:.3}")),
+            ("cents", format!("{:.3}", cents + 0.0)),
+        ];
+        return print(&format!("{}\n", object(&fields)));
+    }
     print(&format!(
         "L {} d {}\nasked {hertz:.3} Hz, sounds {sounds:.3} Hz: {}\n",
         tuning.length,

@@ -5,10 +5,14 @@
 mod rule;
 
 use crate::click::figure;
+use crate::progress::Progress;
 use crate::timeline::{Span, Timeline};
 use crate::tuning::Tuning;
 use rule::{clip, cut_in_loop, draw, Filter};
 use std::collections::HashMap;
+
+/// Samples of work from which on a bar is shown: about a second.
+const LONG: usize = 50_000_000;
 
 /// s: what was written to the line at each step, from the samples, the losses and the plucks.
 fn line(samples: &[i32], timeline: &Timeline) -> Vec<i64> {
@@ -48,7 +52,11 @@ pub fn distances(samples: &[i32], timeline: &Timeline) -> Vec<Distance> {
     for span in timeline.spans() {
         tunings.entry(span.tuning).or_default().push(span);
     }
+    let last = |spans: &Vec<Span>| spans.last().map_or(0, |span| span.to);
+    let work: usize = tunings.values().map(last).sum();
+    let mut progress = (work > LONG).then(|| Progress::new(work));
     for (tuning, spans) in tunings {
+        let steps = last(&spans);
         let mut filter = Filter::new(timeline.order, tuning.delay);
         let read = |step: usize| match step.checked_sub(tuning.length.into()) {
             Some(before) => line[before],
@@ -68,6 +76,7 @@ pub fn distances(samples: &[i32], timeline: &Timeline) -> Vec<Distance> {
             }
             now = to;
         }
+        progress.iter_mut().for_each(|progress| progress.advance(steps));
     }
     distances
 }

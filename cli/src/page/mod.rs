@@ -10,7 +10,7 @@ use crate::number::{decibels, grouped};
 use crate::plot::{draw, Take};
 use crate::refusal::message;
 use crate::take::FULL_SCALE;
-use crate::text::Instead;
+use crate::text::{Instead, QUIET};
 use crate::tune::Tune;
 use crate::tuning::ORDERS;
 use jivaszte::wav_file;
@@ -81,6 +81,7 @@ pub fn page() -> Outcome<String> {
     let steps = slides[0].timeline.changes.len().to_string();
     let parts = [
         ("{{STEPS}}", steps.as_str()),
+        ("{{QUIET}}", &QUIET.to_string().replace('-', "−")),
         ("{{FIGURE}}", &draw(&figures).inline()),
         ("{{SLIDE}}", &draw(&slides).inline()),
         ("{{TABLE}}", &table()),

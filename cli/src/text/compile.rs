@@ -3,7 +3,8 @@
 use super::advance::{with_least, Advance};
 use super::compiler::{Compiler, Origin};
 use super::header::HeaderSpots;
-use super::line::{Fault, Line, Spot};
+use super::line::{Fault, Spot};
+use super::repeat;
 use super::values::Instead;
 use crate::score::Score;
 use jivaszte::Refusal;
@@ -17,6 +18,8 @@ pub struct Compiled {
     sets_advance: bool,
     header: HeaderSpots,
     origins: Vec<Origin>,
+    /// What can be played, and is worth a word.
+    pub remarks: Vec<Fault>,
 }
 
 impl Compiled {
@@ -57,10 +60,11 @@ pub fn compile_with(text: &str, instead: Instead) -> Result<Compiled, Vec<Fault>
 pub fn compile_once(text: &str, instead: Instead) -> Result<Compiled, Vec<Fault>> {
     let mut compiler = Compiler::new(instead);
     let text = text.strip_prefix('\u{FEFF}').unwrap_or(text);
-    let lines = (1..).zip(text.lines());
-    let mut faults: Vec<Fault> =
-        lines.filter_map(|(number, line)| compiler.line(Line::new(number, line)).err()).collect();
+    let mut faults = repeat::lines(text, &mut compiler);
     let sets_advance = compiler.sets_advance();
+    if faults.is_empty() {
+        compiler.choose_seeds();
+    }
     match compiler.header {
         Some((header, spots)) if faults.is_empty() => Ok(Compiled {
             score: Score { header, records: compiler.records },
@@ -69,6 +73,7 @@ pub fn compile_once(text: &str, instead: Instead) -> Result<Compiled, Vec<Fault>
             sets_advance,
             header: spots,
             origins: compiler.origins,
+            remarks: compiler.remarks,
         }),
         None if faults.is_empty() => {
             let end = Spot { line: text.lines().count().max(1), column: 1 };

@@ -1,11 +1,13 @@
 //! The lines of a text, one after the other: settings, then events, whose records are gathered.
 
-use super::event::Event;
+use super::event::{Event, USUAL_COUNT};
 use super::header::{Draft, HeaderSpots};
 use super::line::{Fault, Line, Spot, Word};
-use super::slide::Slide;
+use super::seeds::chosen;
+use super::slide::{Call, Slide};
 use super::tunings;
 use super::values::{Instead, Settings};
+use super::vibrato::Vibrato;
 use crate::decimal::Decimal;
 use crate::number::{counted, grouped};
 use crate::score::{Change, Header, Record};
@@ -37,6 +39,10 @@ pub struct Compiler {
     waits_until: u64,
     pub records: Vec<Record>,
     pub origins: Vec<Origin>,
+    /// The records whose plucks leave their seeds to the program.
+    seedless: Vec<usize>,
+    /// What can be played, and is worth a word.
+    pub remarks: Vec<Fault>,
 }
 
 impl Compiler {
@@ -52,6 +58,8 @@ impl Compiler {
             waits_until: 0,
             records: Vec::new(),
             origins: Vec::new(),
+            seedless: Vec::new(),
+            remarks: Vec::new(),
         }
     }
 
@@ -65,8 +73,9 @@ impl Compiler {
         } else if let Some(word) = line.accept(&["rate", "order", "advance", "tune"]) {
             self.heading(&word, &mut line)?;
         } else if self.header.is_some() {
-            match line.accept(&["slide"]) {
-                Some(word) => self.slide(&word, &mut line)?,
+            match line.accept(&["slide", "vibrato"]) {
+                Some(word) if word.text == "slide" => self.slide(&word, &mut line)?,
+                Some(word) => self.vibrato(&word, &mut line)?,
                 None => self.event(start, &mut line)?,
             }
         } else if let Some(word) = line.accept(&["loss"]) {
@@ -147,14 +156,40 @@ impl Compiler {
         Ok(())
     }
 
+    /// Gives each pluck that names no seed one of its own.
+    pub fn choose_seeds(&mut self) {
+        let plucks = self.seedless.iter().filter_map(|&index| self.records[index].pluck);
+        let counts: Vec<u16> = plucks.map(|pluck| pluck.count.unwrap_or(USUAL_COUNT)).collect();
+        for (&index, seed) in self.seedless.iter().zip(chosen(&counts)) {
+            if let Some(pluck) = &mut self.records[index].pluck {
+                pluck.seed = Some(seed);
+            }
+        }
+    }
+
     fn event(&mut self, start: Spot, line: &mut Line) -> Result<(), Fault> {
-        let Event { wait, record, change, pluck } = Event::read(line, &self.settings)?;
-        self.push(wait, record, Origin { start, change, pluck })
+        let Event { wait, record, change, pluck, seedless } = Event::read(line, &self.settings)?;
+        self.push(wait, record, Origin { start, change, pluck })?;
+        self.seedless.extend(Some(self.records.len() - 1).filter(|_| seedless));
+        Ok(())
     }
 
     fn slide(&mut self, word: &Word, line: &mut Line) -> Result<(), Fault> {
         let slide = Slide::read(line, &self.settings, self.advance(), self.tuning)?;
         let calls = slide.calls().map_err(|message| word.fault(message))?;
+        self.changes(word, calls)?;
+        self.remarks.extend(slide.remark().map(|remark| word.fault(remark)));
+        Ok(())
+    }
+
+    fn vibrato(&mut self, word: &Word, line: &mut Line) -> Result<(), Fault> {
+        let vibrato = Vibrato::read(line, &self.settings, self.advance(), self.tuning)?;
+        let calls = vibrato.calls().map_err(|message| word.fault(message))?;
+        self.changes(word, calls)
+    }
+
+    /// The changes of a slide or a vibrato.
+    fn changes(&mut self, word: &Word, calls: Vec<Call>) -> Result<(), Fault> {
         let first = calls.first().map_or(0, |(wait, _)| *wait);
         if let Some(late @ 1..) = self.waits_until.checked_sub(self.now + first) {
             let more = counted(late, "sample");

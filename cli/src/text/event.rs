@@ -5,8 +5,8 @@ use super::tunings;
 use super::values::{self, Settings};
 use crate::score::{Change, Pluck, Record};
 
-/// The count of a pluck that does not say one.
-const USUAL_COUNT: u16 = 100;
+/// The count of a pluck that does not say one, as that of bytes without one.
+pub const USUAL_COUNT: u16 = 100;
 /// The words that events start with, in the order in which a record does them.
 const EVENTS: [&[&str]; 4] = [&["wait"], &["loss"], &["to", "jump"], &["pluck"]];
 
@@ -17,6 +17,8 @@ pub struct Event {
     pub record: Record,
     pub change: Spot,
     pub pluck: Spot,
+    /// Whether the pluck leaves its seed to the program.
+    pub seedless: bool,
 }
 
 impl Event {
@@ -54,28 +56,53 @@ impl Event {
         Ok(())
     }
 
-    /// `pluck 200`, `pluck 200 for 50`, `pluck 200 count absent`, each with `seed 7` or without.
+    /// An amplitude, `for 50` or `count absent`, `seed 7` or `seed absent`, in any order; the amplitude alone
+    /// must be there.
     fn pluck(&mut self, line: &mut Line) -> Result<(), Fault> {
         self.pluck = line.spot();
-        let amplitude = values::field(line, "an amplitude", "0 to 255")?;
-        let count = match line.accept(&["for", "count"]).map(|word| word.text) {
-            Some("for") => Some(values::field(line, "a count", "1 to 2048")?),
-            Some(_) => line.expect("absent").map(|()| None)?,
-            None => Some(USUAL_COUNT),
-        };
-        let seed = line
-            .accept(&["seed"])
-            .map(|_| values::field(line, "a seed", "0 to 65535"))
-            .transpose()?;
+        let (mut amplitude, mut count, mut seed) = (None, None, None);
+        while !line.ends_event() {
+            let spot = line.spot();
+            let again = match line.accept(&["for", "count", "seed"]).map(|word| word.text) {
+                Some("for") => {
+                    count.replace(Some(values::field(line, "a count", "1 to 2048")?)).is_some()
+                }
+                Some("count") => count.replace(line.expect("absent").map(|()| None)?).is_some(),
+                Some(_) => seed.replace(self.seed(line)?).is_some(),
+                None if amplitude.is_some() => break,
+                None => {
+                    self.pluck = spot;
+                    amplitude = Some(values::field(line, "an amplitude", "0 to 255")?);
+                    false
+                }
+            };
+            if again {
+                return Err(Fault::new(spot, "a pluck has one count and one seed"));
+            }
+        }
+        let missing = || Fault::new(line.spot(), "an amplitude is missing here");
+        let amplitude = amplitude.ok_or_else(missing)?;
+        self.seedless = seed.is_none();
+        let (count, seed) = (count.unwrap_or(Some(USUAL_COUNT)), seed.flatten());
         self.record.pluck = Some(Pluck { amplitude, count, seed });
         Ok(())
+    }
+
+    /// What follows `seed`: a number, or `absent` where the bytes name none, which means 0.
+    fn seed(&self, line: &mut Line) -> Result<Option<u16>, Fault> {
+        match line.accept(&["absent"]) {
+            Some(_) => Ok(None),
+            None => values::field(line, "a seed", "0 to 65535").map(Some),
+        }
     }
 }
 
 fn unknown(word: &Word) -> String {
-    let events = "wait, pluck, to, jump, slide, loss, tempo or nothing";
+    let events = "wait, pluck, to, jump, slide, vibrato, loss, tempo, repeat, end or nothing";
     match word.text {
-        "slide" | "tempo" | "nothing" => format!("`{word}` needs a line of its own"),
+        "slide" | "vibrato" | "tempo" | "repeat" | "end" | "nothing" => {
+            format!("`{word}` needs a line of its own")
+        }
         _ => format!("`{word}` is no event: {events}"),
     }
 }

@@ -65,6 +65,11 @@ impl<'a> Line<'a> {
         self.words.peek().map_or(self.end, |word| word.spot)
     }
 
+    /// Whether the event ends here: at the end of the line, or at a comma.
+    pub fn ends_event(&mut self) -> bool {
+        self.words.peek().is_none_or(|word| word.text == ",")
+    }
+
     /// The next word; where there is none, the fault says what is missing.
     pub fn next(&mut self, expected: &str) -> Result<Word<'a>, Fault> {
         self.words.next().ok_or_else(|| Fault::new(self.end, format!("{expected} is missing here")))

@@ -6,14 +6,18 @@ mod compiler;
 mod event;
 mod header;
 mod line;
+mod repeat;
+mod seeds;
 mod show;
 mod slide;
 mod tunings;
 mod values;
+mod vibrato;
 
 pub use advance::{changed_to, needed, Advance};
 pub use compile::{compile, compile_with, Compiled};
 pub use line::{Fault, Spot};
 pub use show::show;
+pub use slide::QUIET;
 pub use tunings::{asked, FORMS};
 pub use values::Instead;

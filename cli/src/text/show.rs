@@ -120,8 +120,8 @@ fn pluck(pluck: &Pluck) -> String {
         Some(count) => format!("for {count}"),
         None => String::from("count absent"),
     };
-    let seed = pluck.seed.map_or(String::new(), |seed| format!(" seed {seed}"));
-    format!("pluck {} {count}{seed}", pluck.amplitude)
+    let seed = pluck.seed.map_or(String::from("absent"), |seed| seed.to_string());
+    format!("pluck {} {count} seed {seed}", pluck.amplitude)
 }
 
 #[cfg(test)]
