@@ -10,6 +10,8 @@ ghost use Rattle.rule.specs.Calls.{loss as Loss, pluck as Plucking, block as Bl
 ghost use Rattle.rule.specs.Calls.{announce as Announce, ask as Ask, instant as Instant};
 ghost use Rattle.rule.specs.Calls.{commit as Commit, withdraw as Withdraw, count as Count};
 ghost use Rattle.rule.specs.Voice.{tuning};
+ghost use Rattle.rule.specs.State.{back};
+ghost use Rattle.line.specs.Ring.{ring};
 ghost use Rattle.voice.specs.Struct.{voiceOf};
 ghost use Rattle.voice.specs.Valid.{Fit, Valid};
 ghost use Rattle.voice.specs.Called.{Called, On, lent};
@@ -86,7 +88,8 @@ pub extern "C" fn jivaszte_packed_instant(
     ensures { λ r. ⌜ On (headOf (now (head .entry))) (now (line .entry)) (Instant (tuning order length delay))
         (answerOf r (now (head .exit))) (now (line .entry)) ⌝ }
     ensures { λ _. ⌜ now (count .exit)
-        ≡ Count (voiceOf (headOf (now (head .entry)))) (Instant (tuning order length delay)) ⌝ }
+        ≡ Count (voiceOf (headOf (now (head .entry))))
+        (back (ring (headOf (now (head .entry)) .at) (now (line .entry)))) (Instant (tuning order length delay)) ⌝ }
 {
     kept::changes::instant(head, line, order, length, delay, count)
 }

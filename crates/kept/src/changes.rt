@@ -3,6 +3,8 @@ ghost use mathlib.Core.Path.{_≡_};
 ghost use Rattle.rule.specs.Calls.{announce as Announce, ask as Ask, instant as Instant};
 ghost use Rattle.rule.specs.Calls.{commit as Commit, withdraw as Withdraw, count as Count};
 ghost use Rattle.rule.specs.Voice.{tuning};
+ghost use Rattle.rule.specs.State.{back};
+ghost use Rattle.line.specs.Ring.{ring};
 ghost use Rattle.voice.specs.Struct.{voiceOf};
 ghost use Rattle.voice.specs.Valid.{Fit, Valid};
 ghost use Rattle.voice.specs.Called.{Called, On};
@@ -38,7 +40,8 @@ pub fn instant(
     ensures { λ r. ⌜ On (headOf (now (head .entry))) (now (line .entry)) (Instant (tuning order length delay))
         (answerOf r (now (head .exit))) (now (line .entry)) ⌝ }
     ensures { λ _. ⌜ now (count .exit)
-        ≡ Count (voiceOf (headOf (now (head .entry)))) (Instant (tuning order length delay)) ⌝ }
+        ≡ Count (voiceOf (headOf (now (head .entry))))
+        (back (ring (headOf (now (head .entry)) .at) (now (line .entry)))) (Instant (tuning order length delay)) ⌝ }
 {
     let h = unpack(head);
     let c = change::instant(line, h, order, length, delay);
