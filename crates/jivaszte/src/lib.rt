@@ -103,8 +103,7 @@ pub extern "C" fn jivaszte_record(score: &[u8], fields: &mut [u32; 9]) -> usize
     ensures { λ r. ⌜ (r ≤ length (now (score .entry)))
         × (drop r (now (score .entry)) ≡ Rest (now (score .entry))) ⌝ }
 {
-    let rest = record::read_record(score, fields);
-    score.len() - rest.len()
+    record::read(score, fields)
 }
 
 // The number that the bytes from start on make, eight at most.

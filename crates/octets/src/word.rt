@@ -26,7 +26,7 @@ fn four(s: &[u8], at: usize) -> u64
     low + 65_536 * high
 }
 
-fn eight(s: &[u8], at: usize) -> u64
+pub fn eight(s: &[u8], at: usize) -> u64
     requires { ⌜ at + 8 ≤ length (now s) ⌝ }
     ensures { λ r. ⌜ r ≡ gathered (now (s .entry)) at ⌝ }
 {

@@ -1,3 +1,4 @@
+mod Bits
 pub mod Reading
 pub mod Returns
 pub mod Words

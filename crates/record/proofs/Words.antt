@@ -11,7 +11,7 @@ use Rattle.octets.specs.Theorems.{Bytes}
 use Rattle.octets.proofs.Gathers.{cut}
 use Rattle.record.specs.Record.{bit, before, word, mapOf, present, field, read, recordNumber, fields}
 use Rattle.record.proofs.Reading.{taken-fields}
-use Rattle.record.specs.Words.{from, cutField, cuts, FromWords, Words}
+use Rattle.record.specs.Words.{from, cutField, cuts, cutFrom, cutsFrom, FromWords, Words}
 
 -- ---- where a field stands in its word
 -- the word begins at the field or before it, and reaches past it
@@ -30,43 +30,39 @@ stands map (suc (suc (suc (suc (suc (suc zero)))))) h = record { low = omega ari
 stands map (suc (suc (suc (suc (suc (suc (suc k))))))) h = absurd (omega arith)
 
 -- ---- what is cut, from its parts
--- x is what is left of the word of field k behind the fields before it
-abbrev pub Left : List ℕ → ℕ → ℕ → ℕ → Type 0
-Left s m k x = x ≡ gathered s (from m k) / 2 ^ (8 * (before m k - from m k))
+-- x is what is left at field k of a word w that begins at the place p
+abbrev pub Left : ℕ → ℕ → ℕ → ℕ → ℕ → Type 0
+Left w p m k x = x ≡ w / 2 ^ (8 * (before m k - p))
 
-pub left-first : (s : List ℕ) (m : ℕ) {x : ℕ} → x ≡ gathered s 1 → Left s m 0 x
-left-first s m e = e ∙ omega arith
+pub left-first : (w m : ℕ) → Left w 1 m 0 w
+left-first w m = omega arith
 
-pub left-fifth : (s : List ℕ) (m : ℕ) {x : ℕ} → x ≡ gathered s (before m 4) → Left s m 4 x
-left-fifth s m e =
+pub left-fifth : (w m : ℕ) → Left w (before m 4) m 4 w
+left-fifth w m =
     let z : 0 ≡ before m 4 - before m 4 = omega arith in
-    e ∙ omega arith ∙ ap (λ (j : ℕ). gathered s (before m 4) / 2 ^ (8 * j)) z
+    let e : w ≡ w / 2 ^ (8 * 0) = omega arith in
+    e ∙ ap (λ (j : ℕ). w / 2 ^ (8 * j)) z
 
--- a field in the same word as the one before it
-pub left-next : (s : List ℕ) (m k : ℕ) {x y : ℕ} → k < 7 → from m (suc k) ≡ from m k → Left s m k x
-    → y ≡ x / 2 ^ (8 * (2 * bit m k)) → Left s m (suc k) y
-left-next s m k h same l e =
-    let w = gathered s (from m k) in
-    let j = before m k - from m k in
+pub left-next : (w p m k : ℕ) {x y : ℕ} → p ≤ before m k → Left w p m k x
+    → y ≡ x / 2 ^ (8 * (2 * bit m k)) → Left w p m (suc k) y
+left-next w p m k h l e =
+    let j = before m k - p in
     let i = 2 * bit m k in
-    let p : 8 * j + 8 * i ≡ 8 * (before m (suc k) - from m k) = omega (arith, stands m k h .low) in
+    let q : 8 * j + 8 * i ≡ 8 * (before m (suc k) - p) = omega (arith, h) in
     e ∙ ap (λ (x : ℕ). x / 2 ^ (8 * i)) l ∙ div-div-eq-div-mul w (2 ^ (8 * j)) (2 ^ (8 * i))
-    ∙ ap (λ (n : ℕ). w / n) (sym (pow-add 2 (8 * j) (8 * i)) ∙ ap (λ (n : ℕ). 2 ^ n) p)
-    ∙ ap (λ (f : ℕ). gathered s f / 2 ^ (8 * (before m (suc k) - f))) (sym same)
+    ∙ ap (λ (n : ℕ). w / n) (sym (pow-add 2 (8 * j) (8 * i)) ∙ ap (λ (n : ℕ). 2 ^ n) q)
 
-pub placed : (s : List ℕ) (k m : ℕ) {x r : ℕ} → m ≡ mapOf s → Left s m k x → r ≡ present (bit m k) (x % 65536)
-    → r ≡ cutField s k
+pub placed : (w p m k : ℕ) {x r : ℕ} → Left w p m k x → r ≡ present (bit m k) (x % 65536) → r ≡ cutFrom m w p k
+placed w p m k l r = r ∙ ap (λ (x : ℕ). present (bit m k) (x % 65536)) l
+
+pub absent : (w p m k : ℕ) → bit m k ≡ 0 → 0 ≡ cutFrom m w p k
+absent w p m k z = rw z
+
+-- of the words of a slice these are its cuts
+pub cuts-of : (s : List ℕ) {m w v : ℕ} → m ≡ mapOf s → w ≡ gathered s 1 → v ≡ gathered s (before m 4)
+    → cutsFrom m w v ≡ cuts s
 unfolding cutField
-placed s k m e l r = r ∙ rw (l, e)
-
-pub absent : (s : List ℕ) (k m : ℕ) → m ≡ mapOf s → bit m k ≡ 0 → 0 ≡ cutField s k
-unfolding cutField
-absent s k m e z = let b : bit (mapOf s) k ≡ 0 = rw e at z in rw b
-
-pub cuts-as : (s : List ℕ) {m w l d g a n z : ℕ} → m ≡ mapOf s → w ≡ cutField s 0 → l ≡ cutField s 1
-    → d ≡ cutField s 2 → g ≡ cutField s 3 → a ≡ cutField s 4 → n ≡ cutField s 5 → z ≡ cutField s 6
-    → 0 ∷ m ∷ w ∷ l ∷ d ∷ g ∷ a ∷ n ∷ z ∷ [] ≡ 0 ∷ cuts s
-cuts-as s e0 e1 e2 e3 e4 e5 e6 e7 = cc
+cuts-of s {m} {w} {v} e f g = rw (g, f, e)
 
 -- ---- each field is 16 bits of its word
 module _ (s : List ℕ) (b : Bytes s) where

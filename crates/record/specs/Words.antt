@@ -32,6 +32,22 @@ cuts s =
     ∷ cutField s 6
     ∷ []
 
+-- the same from the bit map and the two words: field k is cut from a word w that begins at the place p
+abbrev pub cutFrom : ℕ → ℕ → ℕ → ℕ → ℕ
+cutFrom map w p k = present (bit map k) (sixteen w (before map k - p))
+
+abbrev pub cutsFrom : ℕ → ℕ → ℕ → List ℕ
+cutsFrom map w v =
+    map
+    ∷ cutFrom map w 1 0
+    ∷ cutFrom map w 1 1
+    ∷ cutFrom map w 1 2
+    ∷ cutFrom map w 1 3
+    ∷ cutFrom map v (before map 4) 4
+    ∷ cutFrom map v (before map 4) 5
+    ∷ cutFrom map v (before map 4) 6
+    ∷ []
+
 -- "each field is shown to be 16 bits of such a word"
 pub record FromWords (s : List ℕ) : Type 0 where
   pub within : (k : ℕ) → k < 7 → before (mapOf s) k - from (mapOf s) k ≤ 6

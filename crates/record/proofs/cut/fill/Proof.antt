@@ -1,13 +1,10 @@
 -- `record::cut::fill` meets its contract: each field stands in its word after those before it.
--- Assumes nothing.
 use mathlib.Core.Path.{_≡_, refl, ap, _∙_}
-use mathlib.Core.List.{List}
 use Prim.Native.Nat.{ℕ}
 use native.Mathlib.Omega.{arith}
-use Rattle.octets.specs.Octets.{gathered}
-use Rattle.record.specs.Record.{mapOf}
-use Rattle.record.specs.Words.{cutField}
-use Rattle.record.proofs.Words.{Left, left-first, left-next, left-fifth, placed, absent, cuts-as}
+use Rattle.record.specs.Record.{before}
+use Rattle.record.specs.Words.{cutFrom}
+use Rattle.record.proofs.Words.{Left, left-first, left-next, left-fifth, placed, absent}
 use borrow.Author.Needs.{needs}
 use Rattle.record.proofs.cut.fill.Statement.{statement}
 use Rattle.record.proofs.cut.fill.Tie as tie
@@ -15,43 +12,36 @@ use Rattle.record.proofs.cut.fill.Tie as tie
 -- what is left of the first word at each of its fields, and the fields
 module _ (c : tie.After-field4) where
   abbrev m : ℕ
-  m = c .before .before .before .before .before .before .before .before .before .args .map
+  m = c .before .before .before .before .before .before .before .args .map
 
-  abbrev s : List ℕ
-  s = c .before .before .before .before .before .before .before .before .before .args .s .now
+  abbrev w : ℕ
+  w = c .before .before .before .before .before .before .before .args .w .low
 
-  same : m ≡ mapOf s
-  same = c .before .before .before .before .before .before .before .before .before .pre
+  abbrev v : ℕ
+  v = c .before .before .before .before .before .before .before .args .w .high
 
-  at-wait : Left s m 0 (c .before .before .before .before .before .before .before .gather .result)
-  at-wait = left-first s m (c .before .before .before .before .before .before .before .gather .ensures)
-
-  at-length : Left s m 1 (c .before .before .before .before .before .before .past .result)
+  at-length : Left w 1 m 1 (c .before .before .before .before .before .before .past .result)
   at-length =
-      left-next s m 0 (omega arith) refl at-wait
+      left-next w 1 m 0 (omega arith) (left-first w m)
       (c .before .before .before .before .before .before .past .ensures)
 
-  at-delay : Left s m 2 (c .before .before .before .before .before .past2 .result)
-  at-delay =
-      left-next s m 1 (omega arith) refl at-length (c .before .before .before .before .before .past2 .ensures)
+  at-delay : Left w 1 m 2 (c .before .before .before .before .before .past2 .result)
+  at-delay = left-next w 1 m 1 (omega arith) at-length (c .before .before .before .before .before .past2 .ensures)
 
-  at-loss : Left s m 3 (c .before .before .before .before .past3 .result)
-  at-loss = left-next s m 2 (omega arith) refl at-delay (c .before .before .before .before .past3 .ensures)
+  at-loss : Left w 1 m 3 (c .before .before .before .before .past3 .result)
+  at-loss = left-next w 1 m 2 (omega arith) at-delay (c .before .before .before .before .past3 .ensures)
 
-  wait-is : c .before .before .before .field .result ≡ cutField s 0
-  wait-is = placed s 0 m same at-wait (c .before .before .before .field .ensures)
+  wait-is : c .before .before .before .field .result ≡ cutFrom m w 1 0
+  wait-is = placed w 1 m 0 (left-first w m) (c .before .before .before .field .ensures)
 
-  length-is : c .before .before .field2 .result ≡ cutField s 1
-  length-is = placed s 1 m same at-length (c .before .before .field2 .ensures)
+  length-is : c .before .before .field2 .result ≡ cutFrom m w 1 1
+  length-is = placed w 1 m 1 at-length (c .before .before .field2 .ensures)
 
-  delay-is : c .before .field3 .result ≡ cutField s 2
-  delay-is = placed s 2 m same at-delay (c .before .field3 .ensures)
+  delay-is : c .before .field3 .result ≡ cutFrom m w 1 2
+  delay-is = placed w 1 m 2 at-delay (c .before .field3 .ensures)
 
-  loss-is : c .field4 .result ≡ cutField s 3
-  loss-is = placed s 3 m same at-loss (c .field4 .ensures)
-
-gather-requires : tie.Need-gather-requires
-gather-requires c κs = search needs
+  loss-is : c .field4 .result ≡ cutFrom m w 1 3
+  loss-is = placed w 1 m 3 at-loss (c .field4 .ensures)
 
 past-requires : tie.Need-past-requires
 past-requires c κs = search needs
@@ -78,17 +68,15 @@ returns : tie.Need-returns
 returns c =
     let f = c .before .before in
     let z = c .before .if1 .taken in
-    let e = same f in
-    cuts-as (s f) e (wait-is f) (length-is f) (delay-is f) (loss-is f)
-    (absent (s f) 4 (m f) e (omega (arith, z)))
-    (absent (s f) 5 (m f) e (omega (arith, z)))
-    (absent (s f) 6 (m f) e (omega (arith, z)))
-
-plucked-requires : tie.Need-plucked-requires
-plucked-requires c κs = search needs
-
-gather-requires-2 : tie.Need-gather-requires-2
-gather-requires-2 c κs = search needs
+    let p = before (m f) 4 in
+    let e0 = wait-is f in
+    let e1 = length-is f in
+    let e2 = delay-is f in
+    let e3 = loss-is f in
+    let e4 = absent (v f) p (m f) 4 (omega (arith, z)) in
+    let e5 = absent (v f) p (m f) 5 (omega (arith, z)) in
+    let e6 = absent (v f) p (m f) 6 (omega (arith, z)) in
+    cc
 
 past-requires-4 : tie.Need-past-requires-4
 past-requires-4 c κs = search needs
@@ -107,23 +95,25 @@ field-requires-7 c κs = search needs
 
 returns-2 : tie.Need-returns-2
 returns-2 c =
-    let p = c .before .before .before .before in
-    let g = p .before .before in
-    let f = g .before .before .before in
-    let at-amplitude = left-fifth (s f) (m f)
-    (g .gather2 .ensures ∙ ap (gathered (s f)) (g .before .plucked .ensures)) in
-    let at-count = left-next (s f) (m f) 4 (omega arith) refl at-amplitude (p .before .past4 .ensures) in
-    let at-seed = left-next (s f) (m f) 5 (omega arith) refl at-count (p .past5 .ensures) in
-    cuts-as (s f) (same f) (wait-is f) (length-is f) (delay-is f) (loss-is f)
-    (placed (s f) 4 (m f) (same f) at-amplitude (c .before .before .before .field5 .ensures))
-    (placed (s f) 5 (m f) (same f) at-count (c .before .before .field6 .ensures))
-    (placed (s f) 6 (m f) (same f) at-seed (c .before .field7 .ensures))
+    let b = c .before .before .before .before in
+    let f = b .before .before .before in
+    let p = before (m f) 4 in
+    let at-amplitude = left-fifth (v f) (m f) in
+    let at-count = left-next (v f) p (m f) 4 (omega arith) at-amplitude (b .before .past4 .ensures) in
+    let at-seed = left-next (v f) p (m f) 5 (omega arith) at-count (b .past5 .ensures) in
+    let e0 = wait-is f in
+    let e1 = length-is f in
+    let e2 = delay-is f in
+    let e3 = loss-is f in
+    let e4 = placed (v f) p (m f) 4 at-amplitude (c .before .before .before .field5 .ensures) in
+    let e5 = placed (v f) p (m f) 5 at-count (c .before .before .field6 .ensures) in
+    let e6 = placed (v f) p (m f) 6 at-seed (c .before .field7 .ensures) in
+    cc
 
 pub fill-spec : {M : Type 1} → statement M
 fill-spec =
     tie.close
     (tie.spec
-    gather-requires
     past-requires
     past-requires-2
     past-requires-3
@@ -132,8 +122,6 @@ fill-spec =
     field-requires-3
     field-requires-4
     returns
-    plucked-requires
-    gather-requires-2
     past-requires-4
     past-requires-5
     field-requires-5
