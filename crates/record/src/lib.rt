@@ -102,7 +102,7 @@ fn is_ill_formed(map: u32) -> bool
 // What refuses the record that the slice starts with; 0 where it is whole and well formed.
 fn refused(s: &[u8]) -> u32
     ensures { λ r. ⌜ (r ≡ recordNumber (now (s .entry)))
-        × (r ≡ 0 → Bytes (mapOf (now (s .entry))) ≤ length (now (s .entry))) ⌝ }
+        × (r ≡ 0 → bytesOf (mapOf (now (s .entry))) ≤ length (now (s .entry))) ⌝ }
 {
     if s.len() == 0 {
         return refusal::CUT_SHORT;
