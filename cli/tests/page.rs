@@ -43,13 +43,17 @@ fn the_sounds_are_the_takes() {
 #[test]
 fn nothing_is_fetched_and_nothing_is_left_open() {
     let page = page().unwrap();
-    for word in ["://", "<link", "<script", "<iframe", "url(", "@import", "{{", "}}"] {
+    for word in ["://", "<link", "<script ", "<iframe", "url(", "@import", "{{", "}}"] {
         assert!(!page.contains(word), "{word}");
     }
     assert_eq!(page.matches("src=").count(), 2);
+    assert_eq!(page.matches("role=\"img\" aria-label=\"").count(), 2);
+    assert!(page.contains("id=\"switch\"") && page.contains("scope=\"row\">24</th>"));
     assert_eq!((page.matches("<svg").count(), page.matches("</svg>").count()), (2, 2));
-    for tag in ["figure", "table", "tr", "td", "th", "li", "ol", "code", "small", "p", "h2", "div"]
-    {
+    for tag in [
+        "figure", "table", "tr", "td", "th", "li", "ol", "code", "small", "p", "h2", "div",
+        "script", "button", "caption",
+    ] {
         let (open, close) =
             (page.matches(&format!("<{tag}>")).count(), page.matches(&format!("</{tag}>")).count());
         let classed = page.matches(&format!("<{tag} ")).count();

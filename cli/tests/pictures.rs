@@ -79,6 +79,10 @@ fn well_formed(picture: &str) {
     let lines: Vec<&str> = picture.lines().collect();
     let [first, inner @ .., last] = &lines[..] else { panic!("{picture}") };
     assert!(first.starts_with("<svg xmlns=\"http://www.w3.org/2000/svg\" ") && *last == "</svg>");
+    assert!(
+        attribute(first, "role") == Some("img")
+            && !attribute(first, "aria-label").unwrap().is_empty()
+    );
     for line in inner {
         let (closed, quotes) =
             (line.ends_with("/>") || line.ends_with("</text>"), line.matches('"').count());
@@ -145,6 +149,7 @@ fn clicks_are_drawn() {
     );
     assert_eq!(marks(&picture, "rings"), 40);
     assert!(picture.contains("at most 25,165,824 units (9.5 dB)<"));
+    assert_eq!(picture.matches(">Every distance that was measured here is 0.<").count(), 1);
     assert!(picture.contains("at most 2 units (−132.5 dB)<"));
     assert!(picture.contains(">distance, in units of the last bit<") && picture.contains(" dB<"));
     let off =

@@ -44,12 +44,19 @@ fn sound(take: &Take) -> Outcome<String> {
 
 /// What the advance buys in each order.
 fn table() -> String {
-    let mut rows = String::from("<table>\n<tr><th>Na</th>");
+    let mut rows = String::from(
+        "<div class=\"wide\"><table>\n<caption>Greatest distance of the first sample after a change</caption>\n\
+         <tr><th scope=\"col\" rowspan=\"2\">Na</th>",
+    );
     for order in ORDERS {
-        let _ = write!(rows, "<th>order {order}</th><th></th>");
+        let _ = write!(rows, "<th scope=\"colgroup\" colspan=\"2\">order {order}</th>");
+    }
+    rows += "</tr>\n<tr>";
+    for _ in ORDERS {
+        rows += "<th scope=\"col\">units</th><th scope=\"col\">level</th>";
     }
     for advance in ADVANCES {
-        let _ = write!(rows, "</tr>\n<tr><td>{advance}</td>");
+        let _ = write!(rows, "</tr>\n<tr><th scope=\"row\">{advance}</th>");
         for order in ORDERS {
             let units = figure(order, advance);
             let level = decibels(units.into(), FULL_SCALE.into());
@@ -57,7 +64,7 @@ fn table() -> String {
             let _ = write!(rows, "<td>{}</td><td>{level}</td>", grouped(units.into()));
         }
     }
-    rows + "</tr>\n</table>"
+    rows + "</tr>\n</table></div>"
 }
 
 fn promises() -> String {

@@ -1,7 +1,7 @@
 //! The distance of each sample from the ideal filter's, measured and proved, by its logarithm.
 
 use super::axes::{Time, LEFT, RIGHT};
-use super::svg::{Svg, BLACK};
+use super::svg::{Anchor, Svg, BLACK};
 use super::units::Distances;
 use super::Take;
 use crate::ideal::Distance;
@@ -52,6 +52,10 @@ pub fn draw(svg: &mut Svg, top: f64, take: &Take, distances: &[Distance]) -> f64
             None => format!("M{x:.1} {y:.1}H{right:.1}"),
         };
         at = Some(y);
+    }
+    if distances.iter().all(|distance| distance.measured == 0) {
+        let middle = ((LEFT + RIGHT) / 2.0, (axis.top + axis.bottom) / 2.0);
+        svg.text(middle, Anchor::Middle, "Every distance that was measured here is 0.");
     }
     svg.path("measured", &format!("{MEASURED} stroke-width=\"{thick:.1}\""), &measured);
     svg.path("proved", &format!("{BLACK} {PROVED}"), &proved);

@@ -9,7 +9,7 @@ mod waveform;
 
 use crate::failure::Outcome;
 use crate::ideal::{distances, Distance};
-use crate::number::{decibels, grouped};
+use crate::number::{counted, decibels, duration, grouped};
 use crate::score::Score;
 use crate::take::FULL_SCALE;
 use crate::timeline::Timeline;
@@ -67,6 +67,19 @@ pub fn greatest(distances: &[Distance]) -> Distance {
     })
 }
 
+/// What a take's picture shows, in words.
+fn description(take: &Take) -> String {
+    let (plucks, changes) = (take.timeline.plucks.len() as u64, take.timeline.changes.len() as u64);
+    let marks = format!("{} and {}", counted(plucks, "pluck"), counted(changes, "change"));
+    let length = duration(take.samples.len(), take.rate);
+    let clicks = take.distances.as_ref().map_or(String::new(), |distances| {
+        let most = greatest(distances);
+        let (measured, proved) = (in_words(most.measured), in_words(most.proved));
+        format!(" Off the ideal filter by at most {measured} as measured, {proved} as proved.")
+    });
+    format!("{}: the waveform of {length}, with {marks}.{clicks}", take.title)
+}
+
 /// The takes one below the other, with one scale for all.
 pub fn draw(takes: &[Take]) -> Svg {
     let mut svg = Svg::new(WIDTH);
@@ -76,6 +89,7 @@ pub fn draw(takes: &[Take]) -> Svg {
     for take in takes {
         y += 1.8 * LARGE;
         svg.heading((LEFT, y), &take.title);
+        svg.describe(&description(take));
         y += 1.8 * SMALL;
         let changed =
             |instant| take.timeline.changes.iter().any(|change| change.instant == instant);

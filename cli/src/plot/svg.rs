@@ -19,6 +19,8 @@ pub enum Anchor {
 
 /// A picture that grows downward as things are drawn.
 pub struct Svg {
+    /// What the picture shows, for readers who do not see it.
+    words: String,
     width: f64,
     height: f64,
     body: String,
@@ -51,7 +53,13 @@ fn escaped(words: &str) -> String {
 
 impl Svg {
     pub fn new(width: f64) -> Svg {
-        Svg { width, height: 0.0, body: String::new() }
+        Svg { words: String::new(), width, height: 0.0, body: String::new() }
+    }
+
+    /// Adds to the words that stand for the picture.
+    pub fn describe(&mut self, words: &str) {
+        let gap = if self.words.is_empty() { "" } else { " " };
+        self.words += &format!("{gap}{words}");
     }
 
     /// The picture reaches down to here at least.
@@ -98,9 +106,10 @@ impl Svg {
     fn element(&self, namespace: &str) -> String {
         let (width, height) = (self.width, self.height.ceil());
         format!(
-            "<svg{namespace} viewBox=\"0 0 {width} {height}\" width=\"{width}\" height=\"{height}\" \
+            "<svg{namespace} role=\"img\" aria-label=\"{}\" viewBox=\"0 0 {width} {height}\" width=\"{width}\" height=\"{height}\" \
              font-family=\"DejaVu Sans, Verdana, sans-serif\">\n\
              <rect width=\"{width}\" height=\"{height}\" fill=\"#fff\"/>\n{}</svg>\n",
+            escaped(&self.words).replace('"', "&quot;"),
             self.body
         )
     }
