@@ -1,6 +1,6 @@
-// Calls on a voice in memory that the host keeps: 27 words, which only these routines write, and a line. In the header
-// they are jivaszte_voice_open and so on, over a pointer to both. What a call requires is the voice's invariant,
-// which Open gives and each call hands on, and which `jivaszte_packed_check` tests.
+// Calls on a voice in memory that the host keeps: 27 words, which only these routines write, and a line. In
+// the header they are jivaszte_voice_open and so on, over a pointer to both. What a call requires is the
+// voice's invariant, which Open gives and each call hands on, and which `jivaszte_packed_check` tests.
 ghost use mathlib.Core.Path.{_≡_};
 ghost use mathlib.Core.Logic.{_↔_};
 ghost use Prim.Native.Nat.{_≤_};
@@ -164,8 +164,8 @@ pub extern "C" fn jivaszte_packed_play(
     kept::blocks::play(head, line, output)
 }
 
-// How many samples an announced change still takes, or an asked one until its commit is accepted; 0 where nothing
-// waits.
+// How many samples an announced change still takes, or an asked one until its commit is accepted; 0 where
+// nothing waits.
 #[no_mangle]
 pub extern "C" fn jivaszte_packed_waits(head: &[u32; 27]) -> u32
     requires { ⌜ Fit (headOf (now head)) ⌝ }

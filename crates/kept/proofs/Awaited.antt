@@ -8,7 +8,8 @@ use native.Mathlib.Omega.{arith}
 use borrow.Author.Tests.{eqb-true}
 use lib.IntN.{ℤ}
 use lib.ListN.{length}
-use Rattle.rule.specs.Voice.{Waiting, Kind, announced, asked, Voice, heard, fedToo, commits, tuned, settled, stepped}
+use Rattle.rule.specs.Voice.{Waiting, Kind, announced, asked, Voice}
+use Rattle.rule.specs.Voice.{heard, fedToo, commits, tuned, settled, stepped}
 use Rattle.rule.specs.Calls.{commit, number}
 use Rattle.rule.specs.State.{State, back, step, blockAfter}
 use Rattle.rule.specs.Refusals.{Asked}

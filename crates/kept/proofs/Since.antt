@@ -1,4 +1,5 @@
--- A sequence of calls that begins with an opening is a chain of crate list, one call longer at its end each time.
+-- A sequence of calls that begins with an opening is a chain of crate list, one call longer at its end each
+-- time.
 use mathlib.Core.Path.{_≡_, refl, sym, ap, subst, _∙_}
 use mathlib.Core.List.{List, [], _∷_, _++_, append-nil, append-assoc}
 use Prim.Native.Nat.{ℕ}

@@ -1,5 +1,5 @@
--- How many samples an announced change still takes, or an asked one until its commit is accepted; and what that number
--- says of the calls that come. proofs/Awaited.antt proves `Awaits`.
+-- How many samples an announced change still takes, or an asked one until its commit is accepted; and what
+-- that number says of the calls that come. proofs/Awaited.antt proves `Awaits`.
 use mathlib.Core.Path.{_≡_}
 use mathlib.Core.Logic.{_↔_}
 use mathlib.Core.List.{List}

@@ -1,5 +1,5 @@
--- What a call on a voice in lent memory returned and left, as what the call by value returns: the contracts of
--- crates open, change and block then speak of `headOf` of the words before and after.
+-- What a call on a voice in lent memory returned and left, as what the call by value returns: the contracts
+-- of crates open, change and block then speak of `headOf` of the words before and after.
 use mathlib.Core.List.{List}
 use Prim.Native.Nat.{ℕ}
 use lib.IntN.{ℤ}

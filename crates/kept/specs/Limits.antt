@@ -1,5 +1,5 @@
--- The invariant of a voice in lent memory from outside: the limits of its head's parts, and each number of its line a
--- sample. proofs/Limits.antt proves `Voices`; `check` returns 1 if and only if it holds.
+-- The invariant of a voice in lent memory from outside: the limits of its head's parts, and each number of
+-- its line a sample. proofs/Limits.antt proves `Voices`; `check` returns 1 if and only if it holds.
 use mathlib.Core.Logic.{_↔_}
 use mathlib.Core.List.{List}
 use Prim.Native.Nat.{ℕ, _≤_}

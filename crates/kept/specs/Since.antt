@@ -1,7 +1,8 @@
--- What a host has made of a voice's words and line since their last opening: the calls cs, which returned the numbers ns and the counts ks,
--- put out the samples ys and left the words ws and the line l. Each constructor is the contract of a routine, so that
--- every sequence of their calls that begins with an opening is here. proofs/Since.antt proves `Lists`: such a
--- sequence is the list of its calls, and demands 1, 2 and 3 hold of it as of that list.
+-- What a host has made of a voice's words and line since their last opening: the calls cs, which returned
+-- the numbers ns and the counts ks, put out the samples ys and left the words ws and the line l. Each constructor is the
+-- contract of a routine, so that every sequence of their calls that begins with an opening is here.
+-- proofs/Since.antt proves `Lists`: such a sequence is the list of its calls, and demands 1, 2 and 3 hold of
+-- it as of that list.
 use mathlib.Core.Path.{_≡_}
 use mathlib.Core.List.{List, [], _∷_, _++_}
 use Prim.Native.Nat.{ℕ}

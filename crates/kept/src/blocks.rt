@@ -18,8 +18,8 @@ use render::begin;
 use render::rest;
 use voice::Head;
 
-// Renders the output where 0 comes in at each sample: its first stretch while the head stays where it is, which short
-// blocks end with, and the rest of it, if any.
+// Renders the output where 0 comes in at each sample: its first stretch while the head stays where it is,
+// which short blocks end with, and the rest of it, if any.
 fn unfed(line: &mut [i32; 2112], head: Head, output: &mut [i32]) -> Head
     requires { ⌜ Valid head (now line) ⌝ }
     ensures { λ r. ⌜ Unfed (now (output .entry)) head (now (line .entry)) (now (output .exit)) r

@@ -1,5 +1,5 @@
-// The voice's invariant, tested for memory that came from elsewhere: 2,112 samples take as long as a block of 64, so
-// that no call tests it by itself.
+// The voice's invariant, tested for memory that came from elsewhere: 2,112 samples take as long as a block
+// of 64, so that no call tests it by itself.
 ghost use mathlib.Core.Path.{_≡_};
 ghost use mathlib.Core.Logic.{_↔_};
 ghost use Prim.Native.Nat.{_≤_};

@@ -18,8 +18,8 @@ fn left(advance: u32, w: Waiting) -> u32
     }
 }
 
-// How many samples an announced change still takes, or an asked one until its commit is accepted; 0 where nothing
-// waits.
+// How many samples an announced change still takes, or an asked one until its commit is accepted; 0 where
+// nothing waits.
 pub fn waits(head: &[u32; 27]) -> u32
     requires { ⌜ Fit (headOf (now head)) ⌝ }
     ensures { λ r. ⌜ r ≡ awaited (voiceOf (headOf (now (head .entry)))) ⌝ }

@@ -29,15 +29,21 @@ module _ (f : Filter) (h : Tuned f) where
 
   pub a1-small : natAbs (f .coefficients .a1) ≤ 2 ^ 24
   unfolding padded
-  a1-small = let e = ap (λ (c : Coefficients). c .a1) (h .coefficients-are) in rw e (omega (arith, coefficient-small N d 0 (h .takes)))
+  a1-small =
+      let e = ap (λ (c : Coefficients). c .a1) (h .coefficients-are) in
+      rw e (omega (arith, coefficient-small N d 0 (h .takes)))
 
   pub a2-small : natAbs (f .coefficients .a2) ≤ 2 ^ 24
   unfolding padded
-  a2-small = let e = ap (λ (c : Coefficients). c .a2) (h .coefficients-are) in rw e (omega (arith, coefficient-small N d 1 (h .takes)))
+  a2-small =
+      let e = ap (λ (c : Coefficients). c .a2) (h .coefficients-are) in
+      rw e (omega (arith, coefficient-small N d 1 (h .takes)))
 
   pub a3-small : natAbs (f .coefficients .a3) ≤ 2 ^ 24
   unfolding padded
-  a3-small = let e = ap (λ (c : Coefficients). c .a3) (h .coefficients-are) in rw e (omega (arith, coefficient-small N d 2 (h .takes)))
+  a3-small =
+      let e = ap (λ (c : Coefficients). c .a3) (h .coefficients-are) in
+      rw e (omega (arith, coefficient-small N d 2 (h .takes)))
 
   pub v1-small : natAbs (f .state .v1) ≤ 2 ^ 24
   unfolding stored

@@ -26,7 +26,8 @@ use Rattle.voice.proofs.Within.{read-within}
 use Rattle.packed.specs.Limits.{FilterLimits, WaitingLimits, PluckLimits, Limits, Bounds}
 
 -- ---- a state of order N: 0 past the order
-put : (a b c x y : ℤ) → b ≡ x → c ≡ y → _≡_ {A = State} (record { v1 = a; v2 = b; v3 = c }) (record { v1 = a; v2 = x; v3 = y })
+put : (a b c x y : ℤ) → b ≡ x → c ≡ y
+    → _≡_ {A = State} (record { v1 = a; v2 = b; v3 = c }) (record { v1 = a; v2 = x; v3 = y })
 put a b c x y p q = rw (p, q)
 
 module _ (s : State) (v1 : natAbs (s .v1) ≤ 16777214) (v2 : natAbs (s .v2) ≤ 16777214)

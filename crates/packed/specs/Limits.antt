@@ -1,5 +1,5 @@
--- The invariant of a head from outside: the limits of a voice's parts, in ≤, as document 02 has them for a stored voice
--- (L10). proofs/Limits.antt proves that they are `Fit`.
+-- The invariant of a head from outside: the limits of a voice's parts, in ≤, as document 02 has them for a
+-- stored voice (L10). proofs/Limits.antt proves that they are `Fit`.
 use mathlib.Core.Path.{_≡_}
 use mathlib.Core.Logic.{_↔_}
 use Prim.Native.Nat.{ℕ, _≤_, _<_}
@@ -16,8 +16,8 @@ use Rattle.voice.specs.declared.Pluck.{Pluck}
 use Rattle.voice.specs.declared.Head.{Head}
 use Rattle.voice.specs.Valid.{Fit}
 
--- "Tuning is order, L, d; a state is v1, v2, v3, zero past the order"; "Each number of either state lies within
--- −2M to 2M"; the coefficients are those of the order and d
+-- "Tuning is order, L, d; a state is v1, v2, v3, zero past the order"; "Each number of either state lies
+-- within −2M to 2M"; the coefficients are those of the order and d
 pub record FilterLimits (f : Filter) : Type 0 where
   pub delay : InRange (f .tuning .order) (f .tuning .delay)
   pub length : Between 1 (f .tuning .length) 2048

@@ -1,5 +1,5 @@
--- The head that 27 words of 32 bits are. Every 27 words are some head: which heads are those of a voice is the
--- voice's invariant, `Fit` and `Valid` of crate voice.
+-- The head that 27 words of 32 bits are. Every 27 words are some head: which heads are those of a voice is
+-- the voice's invariant, `Fit` and `Valid` of crate voice.
 use mathlib.Core.Bool.{cond}
 use mathlib.Core.List.{List}
 use Prim.Native.Nat.{ℕ, _+_}

@@ -1,5 +1,5 @@
-// Whether the words are the head of a voice: the voice's invariant, tested for memory that came from elsewhere.
-// A flag goes through the tests one after the other, so that each function has one way through.
+// Whether the words are the head of a voice: the voice's invariant, tested for memory that came from
+// elsewhere. A flag goes through the tests one after the other, so that each function has one way through.
 ghost use mathlib.Core.Path.{_≡_};
 ghost use mathlib.Core.Bool.{true, cond};
 ghost use mathlib.Core.Logic.{_↔_};

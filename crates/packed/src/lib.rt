@@ -53,6 +53,7 @@ pub fn pack(h: Head) -> [u32; 27]
     let e = w.filter;
     let l = h.last;
     let y = word_of(l);
+    let at = h.at as u32;
     [
         f.order,
         f.length,
@@ -80,6 +81,6 @@ pub fn pack(h: Head) -> [u32; 27]
         h.pluck.amplitude,
         h.pluck.left,
         h.pluck.noise,
-        h.at as u32,
+        at,
     ]
 }

@@ -1,5 +1,5 @@
--- `kept::blocks::play` meets its contract: a block of zeros is never refused, and is what is rendered where 0 comes
--- in at each sample.
+-- `kept::blocks::play` meets its contract: a block of zeros is never refused, and is what is rendered where
+-- 0 comes in at each sample.
 use Prim.Native.Nat.{ℕ, zero, suc, _≤_}
 use native.Mathlib.Omega.{arith}
 use borrow.Author.Needs.{needs}

@@ -1,4 +1,5 @@
--- `kept::changes::instant` meets its contract: the call by value on the head that the words are, and its count.
+-- `kept::changes::instant` meets its contract: the call by value on the head that the words are, and its
+-- count.
 use borrow.Author.Needs.{needs}
 use Rattle.kept.proofs.changes.instant.Statement.{statement}
 use Rattle.kept.proofs.changes.instant.Tie as tie

@@ -1,4 +1,5 @@
--- `packed::fits::nine_fit` meets its contract: each test holds of what the filter must be, and of nothing else.
+-- `packed::fits::nine_fit` meets its contract: each test holds of what the filter must be, and of nothing
+-- else.
 use mathlib.Core.Path.{sym, _∙_}
 use mathlib.Core.Bool.{true≢false}
 use Rattle.voice.proofs.Tunes.{Tunes}

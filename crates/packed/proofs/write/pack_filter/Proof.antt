@@ -37,14 +37,20 @@ word-of-requires-6 c κs =
 
 returns : tie.Need-returns
 returns c =
-    let s = c .before .before .before .before .before .before .before .before .before .before .before .before in
+    let x5 = c .before .before in
+    let x4 = x5 .before .before in
+    let x3 = x4 .before .before in
+    let x2 = x3 .before .before in
+    let x1 = x2 .before .before in
+    let s = x1 .before .before in
+    let f = s .args .f in
     rw (
-      c .before .before .before .before .before .before .before .before .before .before .word-of .ensures ∙ shown (s .args .f .coefficients .a1) (a1-small (s .args .f) (s .pre)),
-      c .before .before .before .before .before .before .before .before .word-of2 .ensures ∙ shown (s .args .f .coefficients .a2) (a2-small (s .args .f) (s .pre)),
-      c .before .before .before .before .before .before .word-of3 .ensures ∙ shown (s .args .f .coefficients .a3) (a3-small (s .args .f) (s .pre)),
-      c .before .before .before .before .word-of4 .ensures ∙ shown (s .args .f .state .v1) (v1-small (s .args .f) (s .pre)),
-      c .before .before .word-of5 .ensures ∙ shown (s .args .f .state .v2) (v2-small (s .args .f) (s .pre)),
-      c .word-of6 .ensures ∙ shown (s .args .f .state .v3) (v3-small (s .args .f) (s .pre)),
+      x1 .word-of .ensures ∙ shown (f .coefficients .a1) (a1-small f (s .pre)),
+      x2 .word-of2 .ensures ∙ shown (f .coefficients .a2) (a2-small f (s .pre)),
+      x3 .word-of3 .ensures ∙ shown (f .coefficients .a3) (a3-small f (s .pre)),
+      x4 .word-of4 .ensures ∙ shown (f .state .v1) (v1-small f (s .pre)),
+      x5 .word-of5 .ensures ∙ shown (f .state .v2) (v2-small f (s .pre)),
+      c .word-of6 .ensures ∙ shown (f .state .v3) (v3-small f (s .pre)),
     )
 
 pub pack-filter-spec : {M : Type 1} → statement M

@@ -28,7 +28,11 @@ returns c = search needs
 returns-2 : tie.Need-returns-2
 returns-2 c =
     let w = c .before .before .before .w .given in
-    rw (w .1) (waits (w .0 .0) (c .kind-word .result) (w .0 .1 .1 .0) (filterIn (c .before .pack-filter .result)) (w .0 .1 .0) (c .kind-word .ensures) (c .before .pack-filter .ensures))
+    let k = w .0 .0 in
+    let e = w .0 .1 .0 in
+    let n = w .0 .1 .1 .0 in
+    let f = c .before .pack-filter in
+    rw (w .1) (waits k (c .kind-word .result) n (filterIn (f .result)) e (c .kind-word .ensures) (f .ensures))
 
 pub pack-waiting-spec : {M : Type 1} → statement M
 pack-waiting-spec =

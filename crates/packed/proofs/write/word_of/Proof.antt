@@ -18,7 +18,8 @@ got : (c : tie.After-struct-told) → toZ w64 (ofZ w64 (c .before .before .plus 
     ≡ pos (up (c .before .before .before .args .x .n +ℤ pos 2147483648))
 got c =
     let p = c .before .before in
-    read w64 (p .plus .result .n) (c .struct-told .given .0 .1) (p .plus .ensures ∙ above (p .before .args .x .n) (p .before .pre))
+    read w64 (p .plus .result .n) (c .struct-told .given .0 .1)
+    (p .plus .ensures ∙ above (p .before .args .x .n) (p .before .pre))
 
 cast-result : tie.Need-cast-result
 cast-result c =
