@@ -10,8 +10,9 @@ use native.Mathlib.Decide.{ℕ-discrete}
 use borrow.Author.Tests.{eq-eqb, ne-eqb}
 use lib.Dec.{eqb}
 use lib.IntN.{ℤ}
+use lib.ListN.{length}
 use Rattle.rule.specs.Voice.{Tuning, Kind, announced, asked, Waiting, Voice, tuned, commits, settled}
-use Rattle.rule.specs.Calls.{prepare, commit, instant, number, start, done, count}
+use Rattle.rule.specs.Calls.{prepare, commit, instant, number, window, start, done, count}
 use Rattle.rule.specs.Keeps.{Retuned, Keeps}
 use Rattle.rule.proofs.Read.{length-window}
 
@@ -51,7 +52,11 @@ keeps v r = record {
   withdraw-rest = record { loss = refl; advance = refl; last = refl; pluck = refl };
   instant-rest = λ to. record { loss = refl; advance = refl; last = refl; pluck = refl };
   instant-now = λ to. record { tuning = refl; state = refl; waiting = refl };
-  counted = λ to e. let i = eq-eqb (number v (instant to)) 0 e in (rw i, rw (i, length-window r (to .L) (v .Na)));
+  counted =
+      λ to e.
+      let ran : count v r (instant to) ≡ length (window r (to .L) (v .Na))
+      = rw (eq-eqb (number v (instant to)) 0 e) refl in
+      (ran, ran ∙ length-window r (to .L) (v .Na));
 }
 
 -- what waits after an announced change or an ask is its eliminator at rest
