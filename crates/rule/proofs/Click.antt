@@ -18,7 +18,7 @@ use Rattle.rule.proofs.Place.{Place, place-from, passed, begins}
 use Rattle.rule.proofs.Agreement.{agrees}
 
 pub own-click : (o : Opening) (cs : List Call) → OwnClick o cs
-own-click o cs pre post c t a e m split k late since short = go (omega arith)
+own-click o cs pre post c t a e m split k late since before-end = go (omega arith)
   where
     go : e ≤ m → OwnFigure (norm (A t)) (puts (fresh o) cs) (after o cs .s) t a e m
     go due =
@@ -28,7 +28,7 @@ own-click o cs pre post c t a e m split k late since short = go (omega arith)
         let end : Place t (b .fit) a e m due (after o cs)
         = rw (after-split o pre post c split)
         (place-from t (b .fit) a e m due post (call h c) (call-sound h c g) late (b .place)) in
-        rw (agrees o cs .outputs) (passed t (b .fit) a e m due (after o cs) short end)
+        rw (agrees o cs .outputs) (passed t (b .fit) a e m due (after o cs) before-end end)
 
 pub click : (o : Opening) (cs : List Call) → Click o cs
 click o cs pre post c t a e m split k late since short =
