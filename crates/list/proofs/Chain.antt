@@ -25,7 +25,7 @@ use Rattle.voice.specs.Called.{Called, On, lent}
 use Rattle.voice.proofs.Called.{on}
 use Rattle.open.specs.declared.Opened.{Opened}
 use Rattle.open.specs.Opened.{Opens}
-use Rattle.list.specs.Chain.{heard, Chain, none, called, changed, rendered, Chained}
+use Rattle.list.specs.Chain.{heard, Chain, none, called, changed, rendered, resumed, Chained}
 
 -- what the calls cs do from the head h and the line l, as the list of them does from that voice
 record Follows (h : Head) (l : List ℤ) (cs : List Call) (ns ks : List ℕ) (ys : List ℤ) (g : Head) (k : List ℤ)
@@ -77,6 +77,15 @@ follows {h} {l = l} v (changed {to = to} e k) =
 follows {h} {l = l} v (rendered xs over e i k) =
     before e (block-counts (voiceOf h) (back (ring (h .at) l)) xs (length over)) (heard-is over e i)
     (follows (e .valid) k)
+follows {cs = cs} v (resumed e w k) =
+    let f = follows w k in
+    record {
+      codes = f .codes ∙ ap (λ (u : State). numbers u cs) e;
+      runs = f .runs ∙ ap (λ (u : State). counts u cs) e;
+      samples = f .samples ∙ ap (λ (u : State). puts u cs) e;
+      state = f .state ∙ ap (λ (u : State). from u cs) e;
+      valid = f .valid;
+    }
 
 pub chained : (o : Opening) (r : Opened) → Opens o r → {g : Head} {k : List ℤ} {cs : List Call}
     {ns ks : List ℕ} {ys : List ℤ} → Chain (r .voice .head) (r .voice .line) cs ns ks ys g k

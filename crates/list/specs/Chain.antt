@@ -45,6 +45,10 @@ pub data Chain : Head → List ℤ → List Call → List ℕ → List ℕ → L
       (xs before : List ℤ) {out : List ℤ} → On h l (block xs (length before)) a m
       → out ≡ lent h l (block xs (length before)) before → Chain (a .head) m cs ns ks ys g k
       → Chain h l (block xs (length before) ∷ cs) (a .refusal ∷ ns) (0 ∷ ks) (heard (a .refusal) out ++ ys) g k
+  -- "A stored and resumed voice goes on as if never stopped" (document 02, L10): the head and the line are
+  -- replaced by others of the same voice
+  resumed : {h f g : Head} {l m k : List ℤ} {cs : List Call} {ns ks : List ℕ} {ys : List ℤ}
+      → stateOf f m ≡ stateOf h l → Valid f m → Chain f m cs ns ks ys g k → Chain h l cs ns ks ys g k
 
 -- such a chain on what Open returned is the list of its calls
 pub record Chained (o : Opening) (cs : List Call) (ns ks : List ℕ) (ys : List ℤ) (g : Head) (k : List ℤ) : Type 0

@@ -10,6 +10,7 @@ use integer::Value;
 mod word;
 
 pub use word::eight;
+pub use word::four;
 pub use word::gather;
 
 // Puts the lowest width bytes of n into the slice, from the place at on.

@@ -17,7 +17,7 @@ fn two(s: &[u8], at: usize) -> u64
     low + 256 * high
 }
 
-fn four(s: &[u8], at: usize) -> u64
+pub fn four(s: &[u8], at: usize) -> u64
     requires { ⌜ at + 4 ≤ length (now s) ⌝ }
     ensures { λ r. ⌜ (r ≡ number (take 4 (drop at (now (s .entry))))) × (r < 2 ^ 32) ⌝ }
 {

@@ -1,0 +1,5 @@
+pub mod Said
+pub mod Found
+pub mod Line
+pub mod Heads
+pub mod Loading
