@@ -7,7 +7,7 @@ int main(void)
 {
     static Row rows[ROWS];
     static double read[READINGS][READERS];
-    double wav[2][2] = { { 0, 0 }, { 0, 0 } };
+    double wav[2][2] = { { 0, 0 }, { 0, 0 } }, merge[MERGES] = { 0 };
     int agree = 1;
     make_rows(rows);
     for (int round = 0; round < ROUNDS; round++) {
@@ -16,6 +16,8 @@ int main(void)
         for (int k = 0; k < READINGS; k++)
             agree &= time_readers(k, read[k]);
         agree &= time_recording(0, wav[0]) && time_recording(1, wav[1]);
+        for (int k = 0; k < MERGES; k++)
+            agree &= time_merge(k, &merge[k]);
     }
     for (int i = 0; i < ROWS; i++)
         agree &= rows[i].agree;
@@ -24,6 +26,8 @@ int main(void)
     for (int k = 0; k < 2; k++)
         printf("WAV %s: C %.0f, proved %.0f million samples a second, ratio %.2f\n", k ? "reader" : "writer",
                1 / wav[k][0], 1 / wav[k][1], wav[k][0] / wav[k][1]);
+    printf("merge: waits of 1 %.0f, waits of 65535 %.0f, twice the records %.0f nanoseconds a record\n", 1e9 * merge[0],
+           1e9 * merge[1], 1e9 * merge[2]);
     printf(agree ? "every number and every sample agrees\n" : "NOT ALL AGREE\n");
     return agree ? 0 : 1;
 }

@@ -79,6 +79,20 @@ static void gather(const uint8_t *bytes, size_t length, size_t start)
     printf("gather %zu bytes from %zu: %llu\n", length, start, (unsigned long long)jivaszte_gather(bytes, length, start));
 }
 
+/* Two plucks of one voice, after 5 samples and after 7; the bytes behind the header are printed. */
+static void merge(size_t room)
+{
+    static const uint8_t first[] = { 1, 0, 50, 0, 0, 16, 232, 253, 17, 5, 0, 200, 0 };
+    static const uint8_t second[] = { 1, 0, 50, 0, 0, 16, 232, 253, 17, 7, 0, 100, 0 };
+    uint8_t bytes[32];
+    size_t length;
+    uint32_t refusal = jivaszte_merge(first, sizeof first, second, sizeof second, bytes, room, &length);
+    printf("merge into %zu bytes: %u %zu,", room, refusal, length);
+    for (size_t i = 8; i < length; i++)
+        printf(" %u", bytes[i]);
+    printf("\n");
+}
+
 static void run(const char *what, const uint8_t *score, size_t length, size_t room)
 {
     int32_t output[16];
@@ -209,6 +223,8 @@ int main(void)
     gather(every, 16, 16);
     gather(every, 16, SIZE_MAX);
     gather(every, 0, 0);
+    merge(32);
+    merge(21);
     run("of the paper", paper, sizeof paper, 16);
     run("with no room left", paper, sizeof paper, 9);
     run("of order 3", third, sizeof third, 16);

@@ -45,6 +45,20 @@ fn record(what: &str, score: &[u8]) {
     println!("record {what}: takes {}, {refusal} {map}{}", score.len() - rest.len(), joined(&numbers));
 }
 
+/// Two plucks of one voice, after 5 samples and after 7; the bytes behind the header are printed.
+fn merge(room: usize) {
+    let first = [1, 0, 50, 0, 0, 16, 232, 253, 17, 5, 0, 200, 0];
+    let second = [1, 0, 50, 0, 0, 16, 232, 253, 17, 7, 0, 100, 0];
+    let mut bytes = [0; 32];
+    let answer = jivaszte::merge(&first, &second, &mut bytes[..room]);
+    let (refusal, length) = match answer {
+        Ok(length) => (0, length),
+        Err(refusal) => (refusal.number(), 0),
+    };
+    let put: Vec<String> = bytes[..length].iter().skip(8).map(|byte| format!(" {byte}")).collect();
+    println!("merge into {room} bytes: {refusal} {length},{}", put.concat());
+}
+
 fn gather(bytes: &[u8], start: usize) {
     println!("gather {} bytes from {start}: {}", bytes.len(), jivaszte::gather(bytes, start));
 }
@@ -158,6 +172,8 @@ fn main() {
     gather(&every, 16);
     gather(&every, usize::MAX);
     gather(&[], 0);
+    merge(32);
+    merge(21);
     run("of the paper", &paper, 16);
     run("with no room left", &paper, 9);
     run("of order 3", &third, 16);

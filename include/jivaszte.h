@@ -48,7 +48,10 @@ enum {
     JIVASZTE_ROOM = 18,
     JIVASZTE_FILE_FORM = 19,
     JIVASZTE_COMMIT_EARLY = 20,
-    JIVASZTE_NOTHING_ASKED = 21
+    JIVASZTE_NOTHING_ASKED = 21,
+    JIVASZTE_HEADERS = 28,
+    JIVASZTE_ALONE = 29,
+    JIVASZTE_MERGE = 30
 };
 
 /* The words of such a number. */
@@ -78,8 +81,16 @@ static inline const char *jivaszte_words(uint32_t number)
         "the asked change has taken fewer samples than the advance",
         "no asked change waits",
     };
-    if (number == 32)
+    switch (number) {
+    case 28:
+        return "the first 8 bytes of the scores differ";
+    case 29:
+        return "one of the scores does not play to its end alone";
+    case 30:
+        return "the merge does not play to its end, or does not fit the lent slice";
+    case 32:
         return "no advance from 0 to 64 keeps a change within the wanted distance";
+    }
     return number < sizeof words / sizeof words[0] ? words[number] : "no number of a refusal";
 }
 
@@ -286,6 +297,14 @@ static inline uint32_t jivaszte_voice_check(const jivaszte_voice *voice)
    after success, and 0 for the header; written is how many samples of the output the run has filled, also where it was
    refused. */
 uint32_t jivaszte_run(const uint8_t *score, size_t length, int32_t *output, size_t room, size_t *place, size_t *written);
+
+/* Merges two scores with one header into the bytes lent: every record of both, each at its own sample and with the
+   values that its own score would use. At equal samples the first score's records come first. length is how many bytes
+   the merge has; nothing past them is touched. Refuses by 28 where the first 8 bytes differ (a missing byte is unlike any
+   present one), by 29 where a score does not play to its end given output enough, and by 30 where the merge does not, or
+   is longer than the room; then length is 0, and no byte is touched. */
+uint32_t jivaszte_merge(const uint8_t *first, size_t n, const uint8_t *second, size_t m, uint8_t *bytes, size_t room,
+                        size_t *length);
 
 /* How many bytes a WAV file of so many samples has: the header, three bytes a sample, and a pad byte. */
 #define JIVASZTE_WAV_SIZE(samples) (44 + 3 * (size_t)(samples) + (size_t)(samples) % 2)

@@ -15,6 +15,7 @@ pub mod console;
 pub mod expected;
 pub mod figures;
 pub mod gather;
+pub mod merge;
 pub mod natural;
 pub mod noise;
 pub mod note;

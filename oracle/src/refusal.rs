@@ -45,6 +45,12 @@ pub enum Refusal {
     CommitEarly = 20,
     /// Document 02: "21 commit or withdraw with nothing asked"
     NothingAsked = 21,
+    /// Document 02: "28 the first 8 bytes differ"
+    Headers = 28,
+    /// Document 02: "29 a score that does not end alone"
+    Alone = 29,
+    /// Document 02: "30 a merge that ... does not play to its end, or that is longer than the lent bytes"
+    Merge = 30,
     /// The least advance: "where none does, it says so by a number of its own"
     NoAdvance = 32,
 }

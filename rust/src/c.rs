@@ -103,6 +103,15 @@ extern "C" {
         place: &mut usize,
         written: &mut usize,
     ) -> u32;
+    pub fn jivaszte_merge(
+        first: *const u8,
+        n: usize,
+        second: *const u8,
+        m: usize,
+        bytes: *mut u8,
+        room: usize,
+        length: &mut usize,
+    ) -> u32;
     pub fn jivaszte_wav_write(
         rate: u32,
         samples: *const i32,

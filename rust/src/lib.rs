@@ -22,7 +22,7 @@ mod wav;
 pub use filter::{coefficients, draw, effective_length, least_advance, note, ORDERS};
 pub use list::{perform, Call, Opening, Performed};
 pub use refusal::Refusal;
-pub use score::{gather, record, run, Played, Record, Stopped};
+pub use score::{gather, merge, record, run, Played, Record, Stopped};
 pub use voice::Voice;
 pub use wav::{wav_file, wav_read, wav_size, wav_write, MOST_SAMPLES};
 

@@ -68,6 +68,9 @@ refusals! {
     19 FileForm "the bytes are no WAV file of one channel and 24 bits in the form that is written"
     20 CommitEarly "the asked change has taken fewer samples than the advance"
     21 NothingAsked "no asked change waits"
+    28 Headers "the first 8 bytes of the scores differ"
+    29 Alone "one of the scores does not play to its end alone"
+    30 Merge "the merge does not play to its end, or does not fit the lent slice"
     31 ListForm "the words are no list of calls, or need more room than is lent"
     32 NoAdvance "no advance from 0 to 64 keeps a change within the wanted distance"
 }

@@ -45,6 +45,30 @@ pub fn run(score: &[u8], output: &mut [i32]) -> Result<Played, Stopped> {
     }
 }
 
+/// Merges two scores with one header into the bytes lent; gives how many bytes the merge has. Every record
+/// of both is played at its own sample, the first score's first at equal ones. Nothing past the merge is
+/// touched, and nothing at all where it refuses, by `Headers`, `Alone`, `Merge`.
+///
+/// ```
+/// // order 1, no advance, L 50, d 4,096, G 65,000; one score plucks after 5 samples, the other after 7
+/// let header = [1, 0, 50, 0, 0, 16, 232, 253];
+/// let first = [&header[..], &[17, 5, 0, 200, 0]].concat();
+/// let second = [&header[..], &[17, 7, 0, 100, 0]].concat();
+/// let mut bytes = [0; 32];
+/// assert_eq!(jivaszte::merge(&first, &second, &mut bytes), Ok(22));
+/// assert_eq!(bytes[8..22], [49, 5, 0, 200, 0, 100, 0, 49, 2, 0, 100, 0, 100, 0]);
+/// ```
+pub fn merge(first: &[u8], second: &[u8], bytes: &mut [u8]) -> Result<usize, Refusal> {
+    let mut length = 0;
+    let (room, to) = (bytes.len(), bytes.as_mut_ptr());
+    let (n, m) = (first.len(), second.len());
+    // SAFETY: as for `run`.
+    let number =
+        unsafe { c::jivaszte_merge(first.as_ptr(), n, second.as_ptr(), m, to, room, &mut length) };
+    Refusal::of(number)?;
+    Ok(length)
+}
+
 /// A record's fields, where it has them.
 #[derive(Clone, Copy, Debug, Default, PartialEq, Eq)]
 pub struct Record {

@@ -51,12 +51,14 @@ fn every_refusal_has_the_words_of_the_header() {
     let rows = table.lines().filter_map(|row| row.trim().strip_prefix('"')?.strip_suffix("\","));
     let words: Vec<&str> = rows.collect();
     assert_eq!(words[0], "done");
-    let listed = Refusal::ALL.iter().filter(|refusal| refusal.number() < 31);
-    for refusal in listed.clone() {
-        assert_eq!(refusal.to_string(), words[refusal.number() as usize]);
+    for refusal in Refusal::ALL.iter().filter(|refusal| refusal.number() != 31) {
+        match words.get(refusal.number() as usize) {
+            Some(row) => assert_eq!(refusal.to_string(), *row),
+            None => assert!(HEADER.contains(&format!("return \"{refusal}\";")), "{refusal}"),
+        }
     }
-    assert_eq!(words.len(), listed.count() + 1, "a refusal has no words in the crate");
-    assert!(HEADER.contains(&format!("return \"{}\";", Refusal::NoAdvance)));
+    let cases = HEADER.matches("    case ").count();
+    assert_eq!(words.len() + cases, Refusal::ALL.len(), "a refusal has no words in the crate");
     assert!(
         Refusal::Other(99).words() == "no number of a refusal"
             && HEADER.contains("\"no number of a refusal\"")

@@ -12,6 +12,7 @@ ghost use Rattle.octets.specs.Octets.{gathered};
 ghost use Rattle.record.specs.Record.{fields as Fields, rest as Rest};
 ghost use Rattle.list.specs.Performed.{Performs};
 ghost use Rattle.score.specs.Played.{Runs};
+ghost use Rattle.timeline.specs.Answered.{Answered};
 ghost use Rattle.wav.specs.Written.{written, left};
 ghost use Rattle.wav.specs.Recorded.{recorded, filled};
 
@@ -171,6 +172,22 @@ pub extern "C" fn jivaszte_run(
     *place = p.place;
     *written = p.written;
     p.refusal
+}
+
+// Merges two scores into the bytes lent.
+#[no_mangle]
+pub extern "C" fn jivaszte_merge(
+    first: &[u8],
+    second: &[u8],
+    bytes: &mut [u8],
+    length: &mut usize,
+) -> u32
+    ensures { λ r. ⌜ Answered (now (first .entry)) (now (second .entry)) (now (bytes .entry)) r
+        (now (length .exit)) (now (bytes .exit)) ⌝ }
+{
+    let m = merge::merge(first, second, bytes);
+    *length = m.length;
+    m.refusal
 }
 
 // Writes samples at a rate as a WAV file.

@@ -1,0 +1,16 @@
+pub mod Order
+pub mod Spread
+pub mod Acts
+pub mod Sound
+pub mod Listing
+pub mod Bits
+pub mod Doings
+pub mod ReadBack
+pub mod Fine
+pub mod Lasts
+pub mod Merging
+pub mod Only
+pub mod Six
+pub mod Instances
+pub mod Whole
+pub mod Itself
