@@ -7,7 +7,7 @@ int main(void)
 {
     static Row rows[ROWS];
     static double read[READINGS][READERS];
-    double wav[2][2] = { { 0, 0 }, { 0, 0 } }, merge[MERGES] = { 0 };
+    double wav[2][2] = { { 0, 0 }, { 0, 0 } }, merge[MERGES] = { 0 }, tube[2][2] = { { 0, 0 }, { 0, 0 } };
     int agree = 1;
     make_rows(rows);
     for (int round = 0; round < ROUNDS; round++) {
@@ -18,6 +18,7 @@ int main(void)
         agree &= time_recording(0, wav[0]) && time_recording(1, wav[1]);
         for (int k = 0; k < MERGES; k++)
             agree &= time_merge(k, &merge[k]);
+        agree &= time_junction(0, tube[0]) && time_junction(1, tube[1]);
     }
     for (int i = 0; i < ROWS; i++)
         agree &= rows[i].agree;
@@ -28,6 +29,9 @@ int main(void)
                1 / wav[k][0], 1 / wav[k][1], wav[k][0] / wav[k][1]);
     printf("merge: waits of 1 %.0f, waits of 65535 %.0f, twice the records %.0f nanoseconds a record\n", 1e9 * merge[0],
            1e9 * merge[1], 1e9 * merge[2]);
+    for (int k = 0; k < 2; k++)
+        printf("junction, %s: C %.1f, proved %.1f ns a sample, ratio %.2f\n", k ? "a move waits" : "nothing waits",
+               1e9 * tube[k][0], 1e9 * tube[k][1], tube[k][0] / tube[k][1]);
     printf(agree ? "every number and every sample agrees\n" : "NOT ALL AGREE\n");
     return agree ? 0 : 1;
 }

@@ -93,6 +93,26 @@ static void merge(size_t room)
     printf("\n");
 }
 
+/* A sample before a move and three after it; the third call is refused. */
+static void junction(uint32_t left_area, uint32_t right_area, uint32_t delay, uint32_t advance)
+{
+    static const int32_t in[4][2] = { { 100000, -200000 }, { 30000, 40000 }, { -50000, 60000 }, { 7000, 9000 } };
+    jivaszte_junction j;
+    printf("junction %u %u %u %u: %u,", left_area, right_area, delay, advance,
+           jivaszte_junction_open(&j, left_area, right_area, delay, advance));
+    for (int i = 0; i < 4; i++) {
+        int32_t right = 7, left = 7;
+        uint32_t refusal = jivaszte_junction_sample(&j, in[i][0], in[i][1], &right, &left);
+        printf(" %u %d %d", refusal, right, left);
+        if (i == 0) {
+            uint32_t moved = jivaszte_junction_move(&j, 5000), again = jivaszte_junction_move(&j, 6144);
+            refusal = jivaszte_junction_sample(&j, 5, -8388608, &right, &left);
+            printf(" %u %u %u %d %d", moved, again, refusal, right, left);
+        }
+    }
+    printf("\n");
+}
+
 static void run(const char *what, const uint8_t *score, size_t length, size_t room)
 {
     int32_t output[16];
@@ -252,11 +272,14 @@ int main(void)
     wav_read("in two places", file, sizeof file, 2);
     wav_read("without its pad byte", file, sizeof file - 1, 4);
     wav_read("of nothing", file, 0, 4);
+    junction(2, 1, 3000, 2);
+    junction(2, 1, 3000, 0);
+    junction(65536, 1, 3000, 2);
     printf("version %s: %u\n", JIVASZTE_VERSION, jivaszte_version());
     if (jivaszte_version() != JIVASZTE_VERSION_NUMBER)
         return 1;
     for (uint32_t number = JIVASZTE_DONE; number <= JIVASZTE_NOTHING_ASKED; number++)
         if (jivaszte_words(number) == jivaszte_words(JIVASZTE_NOTHING_ASKED + 1))
             return 1;
-    return 0;
+    return jivaszte_words(JIVASZTE_AREA) == jivaszte_words(JIVASZTE_NOTHING_ASKED + 1);
 }

@@ -63,6 +63,26 @@ fn gather(bytes: &[u8], start: usize) {
     println!("gather {} bytes from {start}: {}", bytes.len(), jivaszte::gather(bytes, start));
 }
 
+/// A sample before a move and three after it; the third call is refused.
+fn junction(left: u32, right: u32, delay: u32, advance: u32) {
+    let opened = jivaszte::Junction::open(left, right, delay, advance);
+    let number = opened.as_ref().map_or_else(|refusal| refusal.number(), |_| 0);
+    print!("junction {left} {right} {delay} {advance}: {number},");
+    // A refused opening leaves areas 1 and 1, delay 4,096 and advance 0.
+    let mut j = opened.unwrap_or_else(|_| jivaszte::Junction::open(1, 1, 4_096, 0).unwrap());
+    let number = |answer: Result<(), jivaszte::Refusal>| answer.map_or_else(|no| no.number(), |()| 0);
+    let samples = [(100_000, -200_000), (30_000, 40_000), (-50_000, 60_000), (7_000, 9_000)];
+    for (i, (a, b)) in samples.into_iter().enumerate() {
+        let (right, left) = j.sample(a, b).unwrap();
+        print!(" 0 {right} {left}");
+        if i == 0 {
+            print!(" {} {}", number(j.move_to(5_000)), number(j.move_to(6_144)));
+            print!(" {} 0 0", number(j.sample(5, -8_388_608).map(|_| ())));
+        }
+    }
+    println!();
+}
+
 fn run(what: &str, score: &[u8], room: usize) {
     let mut output = [7; 16];
     let (number, place, written) = match jivaszte::run(score, &mut output[..room]) {
@@ -201,5 +221,8 @@ fn main() {
     wav_read("in two places", &file, 2);
     wav_read("without its pad byte", &file[..file.len() - 1], 4);
     wav_read("of nothing", &[], 4);
+    junction(2, 1, 3_000, 2);
+    junction(2, 1, 3_000, 0);
+    junction(65_536, 1, 3_000, 2);
     println!("version {}: {}", jivaszte::VERSION, jivaszte::version());
 }

@@ -1,8 +1,8 @@
 /* Jivaszte for C: the routines of libjivaszte.a, which `rt staticlib jivaszte` proves and writes, and `make install` puts
    where `cc host.c $(pkg-config --cflags --libs jivaszte)` finds it.
 
-   Every routine is safe for every number and every byte, but that the calls on a jivaszte_voice ask for one that was
-   opened. Of its pointers a caller owes what C always asks: none is
+   Every routine is safe for every number and every byte, but that the calls on a jivaszte_voice and a jivaszte_junction
+   ask for one that was opened. Of its pointers a caller owes what C always asks: none is
    null, not even with length 0; each refers to as many values as its length or its type says; and what is written
    overlaps nothing else that is passed. No routine keeps a pointer, allocates, or touches a variable of its own:
    calls in several threads do not disturb each other.
@@ -49,6 +49,7 @@ enum {
     JIVASZTE_FILE_FORM = 19,
     JIVASZTE_COMMIT_EARLY = 20,
     JIVASZTE_NOTHING_ASKED = 21,
+    JIVASZTE_AREA = 25,
     JIVASZTE_HEADERS = 28,
     JIVASZTE_ALONE = 29,
     JIVASZTE_MERGE = 30
@@ -82,6 +83,8 @@ static inline const char *jivaszte_words(uint32_t number)
         "no asked change waits",
     };
     switch (number) {
+    case 25:
+        return "an area is outside 1 to 65535";
     case 28:
         return "the first 8 bytes of the scores differ";
     case 29:
@@ -317,6 +320,30 @@ uint32_t jivaszte_wav_write(uint32_t rate, const int32_t *samples, size_t count,
 /* Reads such a file: its rate, and its samples, count of them. A stored -8,388,608 reads as -8,388,607, so that all that
    is read is block input. Nothing past the samples is touched. Refuses by 19, 17, 18, and then touches no sample. */
 uint32_t jivaszte_wav_read(const uint8_t *file, size_t length, int32_t *samples, size_t room, uint32_t *rate, size_t *count);
+
+/* A junction of two tubes that the host keeps, 64 bytes. Its words are for the routines below alone. A host owes three
+   things: a junction is opened before anything else is called on it, nothing but these routines writes to it, and one
+   thread at a time uses it. It may be copied, which makes a second junction. */
+#define JIVASZTE_JUNCTION_WORDS 16
+typedef struct {
+    uint32_t words[JIVASZTE_JUNCTION_WORDS];
+} jivaszte_junction;
+
+/* Opens a junction at rest, whatever the memory held: the areas of the left and the right tube, 1 to 65,535; the delay of
+   the filter over what comes from the left, in 1/4,096 of a sample, 2,049 to 6,143 (that over what comes from the right
+   has 8,192 less it); and the advance of a move, at most 64. Refuses by 25, 3, 5, and then leaves areas 1 and 1, delay
+   4,096 and advance 0. */
+uint32_t jivaszte_junction_open(jivaszte_junction *junction, uint32_t left_area, uint32_t right_area, uint32_t delay,
+                                uint32_t advance);
+
+/* Announces another delay, which takes effect when second copies of both filters have taken as many samples as the
+   advance; with an advance of 0 at once. Refuses by 3, 6, and then leaves the junction as it was. */
+uint32_t jivaszte_junction_move(jivaszte_junction *junction, uint32_t delay);
+
+/* Takes a sample from the left and one from the right, and gives what goes to the right and to the left. Refuses by 10,
+   and then gives 0 and 0 and leaves the junction as it was. */
+uint32_t jivaszte_junction_sample(jivaszte_junction *junction, int32_t from_left, int32_t from_right, int32_t *to_right,
+                                  int32_t *to_left);
 
 #ifdef __cplusplus
 }

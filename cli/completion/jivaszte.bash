@@ -20,7 +20,7 @@ _jivaszte() {
         show) options='--rate --help' ;;
         check) options='--rate --json --help' ;;
         note) options='--rate --order --json --help' ;;
-        advance) options='--order --delay --json --help' ;;
+        advance) options='--order --delay --rate --table --json --help' ;;
     esac
     case $word in
         -*) COMPREPLY=($(compgen -W "$options" -- "$word")) ;;

@@ -1,6 +1,7 @@
 //! The routines of include/jivaszte.h as they are linked. Every number and every byte is safe; of the
 //! pointers they ask what Rust's references give: valid for their lengths, and no overlap. Those over a
-//! head ask for a voice that `jivaszte_packed_open` made, which src/voice.rs alone gives them.
+//! head ask for a voice that `jivaszte_packed_open` made, which src/voice.rs alone gives them, and those
+//! over a junction for one that `jivaszte_junction_open` made, which src/junction.rs alone gives them.
 
 #[link(name = "jivaszte", kind = "static")]
 extern "C" {
@@ -127,5 +128,20 @@ extern "C" {
         room: usize,
         rate: &mut u32,
         count: &mut usize,
+    ) -> u32;
+    pub fn jivaszte_junction_open(
+        junction: &mut [u32; 16],
+        left_area: u32,
+        right_area: u32,
+        delay: u32,
+        advance: u32,
+    ) -> u32;
+    pub fn jivaszte_junction_move(junction: &mut [u32; 16], delay: u32) -> u32;
+    pub fn jivaszte_junction_sample(
+        junction: &mut [u32; 16],
+        from_left: i32,
+        from_right: i32,
+        to_right: &mut i32,
+        to_left: &mut i32,
     ) -> u32;
 }

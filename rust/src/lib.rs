@@ -13,6 +13,7 @@
 
 mod c;
 mod filter;
+mod junction;
 mod list;
 mod refusal;
 mod score;
@@ -20,6 +21,7 @@ mod voice;
 mod wav;
 
 pub use filter::{coefficients, draw, effective_length, least_advance, note, ORDERS};
+pub use junction::Junction;
 pub use list::{perform, Call, Opening, Performed};
 pub use refusal::Refusal;
 pub use score::{gather, merge, record, run, Played, Record, Stopped};

@@ -17,6 +17,7 @@ ghost use Rattle.wav.specs.Written.{written, left};
 ghost use Rattle.wav.specs.Recorded.{recorded, filled};
 
 mod calls;
+mod junctions;
 
 // A1, A2 and A3 of an order and a delay.
 #[no_mangle]

@@ -1,0 +1,10 @@
+pub mod Junction
+pub mod Calls
+pub mod JunctionRows
+pub mod History
+pub mod Valid
+pub mod Refusals
+pub mod Outputs
+pub mod Click
+pub mod Literals
+pub mod InForce

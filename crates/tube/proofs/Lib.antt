@@ -1,0 +1,4 @@
+pub mod Tuned
+pub mod Sums
+pub mod Junctions
+pub mod Signs
