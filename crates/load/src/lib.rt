@@ -22,10 +22,6 @@ mod build;
 mod limits;
 mod words;
 
-const BYTES: u32 = 22;
-
-const LIMITS: u32 = 23;
-
 // What the panel shows: length, delay and loss.
 pub struct Shown {
     pub refusal: u32,
@@ -42,13 +38,13 @@ fn tested(s: &[u8]) -> u32
     let p = places(m);
     let end = p.end;
     if s.len() != end {
-        return BYTES;
+        return refusal::STORED_LENGTH;
     }
     if !head_in(words_of(s, m)) {
-        return LIMITS;
+        return refusal::STORED_PART;
     }
     if !line_in(s, p.line, m / 128 % 2) {
-        return LIMITS;
+        return refusal::STORED_PART;
     }
     0
 }

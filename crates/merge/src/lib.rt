@@ -22,12 +22,6 @@ mod walk;
 use header::header_number;
 use walk::walk;
 
-pub const HEADERS: u32 = 28;
-
-pub const ALONE: u32 = 29;
-
-pub const MERGE: u32 = 30;
-
 // What a merge returns: its refusal, and how many bytes it has.
 pub struct MergeEnd {
     pub refusal: u32,
@@ -154,18 +148,18 @@ pub fn merge(first: &[u8], second: &[u8], bytes: &mut [u8]) -> MergeEnd
         (r .refusal) (r .length) (now (bytes .exit)) ⌝ }
 {
     if !same_header(first, second) {
-        return refuse(HEADERS);
+        return refuse(refusal::HEADERS);
     }
     let p = alone(first);
     if p.refusal != 0 {
-        return refuse(ALONE);
+        return refuse(refusal::ALONE);
     }
     let q = alone(second);
     if q.refusal != 0 {
-        return refuse(ALONE);
+        return refuse(refusal::ALONE);
     }
     if bytes.len() < 8 {
-        return refuse(MERGE);
+        return refuse(refusal::MERGE);
     }
     let order = wide(first[0]);
     let advance = wide(first[1]);

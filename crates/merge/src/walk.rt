@@ -5,7 +5,6 @@ ghost use Rattle.record.specs.Record.{bytes as Bytes};
 ghost use Rattle.outline.specs.Struct.{outlineOf, Order};
 ghost use Rattle.merge.specs.Left.{LeftAt};
 ghost use Rattle.merge.specs.Walk.{AnyLeft, Puts, begin, allOf, Walks};
-use crate::MERGE;
 use crate::MergeEnd;
 use crate::Pair;
 use crate::Side;
@@ -72,14 +71,14 @@ pub fn walk(
         let e = follow(order, advance, c, &q);
         if e.refusal != 0 {
             return MergeEnd {
-                refusal: MERGE,
+                refusal: refusal::MERGE,
                 length: 0,
             };
         }
         let n = size(q[MAP]);
         if out.len() - done < n {
             return MergeEnd {
-                refusal: MERGE,
+                refusal: refusal::MERGE,
                 length: 0,
             };
         }

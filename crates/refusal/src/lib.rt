@@ -1,4 +1,4 @@
-// The numbers by which document 01's calls refuse, and the tests that give them, one after the other.
+// The numbers by which the calls of documents 01 and 02 refuse, and the tests that give them, one after the other.
 // What a call returns is the first number, in the order listed, whose test is met (specs/Limits.antt).
 ghost use mathlib.Core.Path.{_≡_};
 ghost use Rattle.refusal.specs.Limits.{outside as Outside};
@@ -45,6 +45,24 @@ pub const FILE_FORM: u32 = 19;
 pub const TOO_EARLY: u32 = 20;
 
 pub const NOTHING_ASKED: u32 = 21;
+
+pub const STORED_LENGTH: u32 = 22;
+
+pub const STORED_PART: u32 = 23;
+
+pub const STRING: u32 = 24;
+
+pub const AREA: u32 = 25;
+
+pub const NOT_FINITE: u32 = 26;
+
+pub const FLOAT_RANGE: u32 = 27;
+
+pub const HEADERS: u32 = 28;
+
+pub const ALONE: u32 = 29;
+
+pub const MERGE: u32 = 30;
 
 // The greatest order, length, loss, advance, amplitude and count that are let pass.
 pub const ORDERS: u32 = 3;

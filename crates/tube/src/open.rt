@@ -13,9 +13,6 @@ use crate::scatter::reflection;
 use integer::Value;
 use refusal::tested;
 
-// The refusal of an area outside 1 to 65,535.
-pub const AREA: u32 = 25;
-
 // 1 where an area is outside its limits, else 0.
 fn area_outside(n: u32) -> u32
     ensures { λ r. ⌜ r ≡ areaOutside n ⌝ }
@@ -32,7 +29,7 @@ fn open_refusal(left: u32, right: u32, d: u32, advance: u32) -> u32
 {
     let n = area_outside(left);
     let m = area_outside(right);
-    let a = tested(0, AREA, n + m, 0, 0);
+    let a = tested(0, refusal::AREA, n + m, 0, 0);
     let b = tested(a, refusal::DELAY, d, 2_049, 6_143);
     tested(b, refusal::ADVANCE, advance, 0, refusal::MOST_ADVANCE)
 }
