@@ -1,10 +1,8 @@
-/* The floor of bench/floor: some rows of bench.c's table, each of which must reach LEAST of C's speed. A row that does not
+/* The floor of bench/floor: some rows of bench.c's table, each of which must reach `least` of C's speed. A row that does not
    is timed once more, since other work on the machine can slow a few rounds. Exit status 0 only where every row reaches
    it and every sample agrees. */
 #include "bench.h"
 #include <stdio.h>
-
-#define LEAST 0.75
 
 /* A loop that is not compiled into its caller has 0.57 to 0.68 of C's speed. Each order has its loops with nothing
    waiting, with an input and with an asked change; that of order 3 with a change of order 3 is the one that LLVM
@@ -23,6 +21,13 @@ static Row rows[] = {
 };
 
 enum { FLOOR_ROWS = sizeof rows / sizeof rows[0] };
+
+/* What a row must reach. With input in order 2 an Intel Xeon has 0.75 and an AMD EPYC 0.84, and the loop that is not compiled
+   in 0.57: its floor lies between. */
+static double least(const Row *r)
+{
+    return r->group == FED && r->order == 2 ? 0.66 : 0.75;
+}
 
 static void print_name(const Row *r)
 {
@@ -47,16 +52,16 @@ static int passes(Row *r)
     time_rounds(r);
     print_name(r);
     printf(": %.2f of C's speed", ratio(r));
-    if (ratio(r) < LEAST) {
+    if (ratio(r) < least(r)) {
         time_rounds(r);
         printf(", and %.2f when timed again", ratio(r));
     }
     if (!r->agree)
         printf("; NOT ALL SAMPLES AGREE");
-    else if (ratio(r) < LEAST)
-        printf("; TOO SLOW: the floor is %.2f", LEAST);
+    else if (ratio(r) < least(r))
+        printf("; TOO SLOW: the floor is %.2f", least(r));
     printf("\n");
-    return r->agree && ratio(r) >= LEAST;
+    return r->agree && ratio(r) >= least(r);
 }
 
 int main(void)
