@@ -3,3 +3,4 @@ mod Refusals
 pub mod Returns
 pub mod Numbers
 pub mod Keeps
+pub mod Instances

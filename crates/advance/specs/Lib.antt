@@ -1,3 +1,4 @@
 pub mod Least
 pub mod Returns
 pub mod Keeps
+pub mod Instances

@@ -3,5 +3,9 @@ pub mod Live
 pub mod Pedals
 pub mod Single
 pub mod Routines
+pub mod Links
 pub mod Chain
 pub mod Sounds
+pub mod Spoken
+pub mod Heard
+pub mod Kept

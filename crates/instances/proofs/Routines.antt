@@ -10,6 +10,7 @@ use Rattle.integer.specs.Cut.{cut, R, Q}
 use Rattle.thiran.specs.Formula.{factor, a}
 use Rattle.thiran.specs.Coefficients.{coefficient, coefficients}
 use Rattle.allpass.specs.Allpass.{inner, next, out}
+use Rattle.allpass.specs.Bounds.{distance, ownFigure}
 use Rattle.noise.specs.Noise as Noise
 use Rattle.record.specs.Record.{field, recordNumber, fields, rest}
 use Rattle.rule.specs.Voice.{noise, spent, output, written, settled, stepped}
@@ -27,7 +28,7 @@ use Rattle.score.proofs.Calls.{listed}
 use Rattle.list.specs.Words.{calls, formed}
 use Rattle.list.specs.Performed.{outputAfter, numbersAfter}
 use Rattle.list.specs.Live as ListLive
-use Rattle.list.proofs.Clicks.{clicks}
+use Rattle.list.proofs.Clicks.{clicks, own-clicks}
 use Rattle.list.proofs.Live.{equals}
 use Rattle.rule.specs.Live as Live
 use Rattle.instances.specs.Live.{two, loud, bass, between, zeros}
@@ -41,7 +42,7 @@ pub performing : Performing
 unfolding
     floor nearest cut R Q clip factor a coefficient coefficients inner next out noise spent output written settled
     stepped number opened done read History.step History.call new step sounds call put silence calls formed
-    outputAfter
+    outputAfter distance ownFigure
 performing = record {
   room = refl;
   left = refl;
@@ -52,6 +53,13 @@ performing = record {
       (announcing refl) (none-block 6 _ _ _, (none-block 6 _ _ _, tt)) (omega arith) (omega arith);
   voice = refl;
   filter = refl;
+  own-figure =
+      own-clicks o words input 4 (replicate 9 (pos 77)) refl
+      (block (pos 1000000 ∷ negsuc 1999999 ∷ pos 500000 ∷ []) 3 ∷ [])
+      (block (replicate 3 (pos 0)) 3 ∷ block (replicate 2 (pos 0)) 2 ∷ []) (announce t) t 2 5 6 refl
+      (announcing refl) (none-block 6 _ _ _, (none-block 6 _ _ _, tt)) (omega arith) (omega arith);
+  own-sum = refl;
+  own-number = refl;
 }
 
 -- ---- a score

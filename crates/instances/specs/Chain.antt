@@ -1,7 +1,7 @@
--- Demand 3 of calls that a caller makes one after the other, at literal structs: a block, a loss, an instant change
+-- Demand 3 of calls that a caller makes one after the other, at literal structs: two blocks, a loss, an instant change
 -- and its count, a block. A statement alone: proofs/Chain.antt has it from crate list's `chained`.
 use mathlib.Core.Path.{_≡_}
-use mathlib.Core.List.{List, [], _∷_}
+use mathlib.Core.List.{List, [], _∷_, _++_}
 use Prim.Native.Nat.{ℕ}
 use lib.IntN.{ℤ, pos, negsuc}
 use lib.ListN.{replicate}
@@ -22,9 +22,17 @@ o = record { N = 1; L = 1; d = 4096; G = 65535; Na = 1 }
 abbrev pub t : Tuning
 t = tuning 1 1 2049
 
+abbrev pub pre : List Call
+pre = block (pos 1000000 ∷ negsuc 499999 ∷ []) 2 ∷ []
+
+abbrev pub mid : List Call
+mid = block (pos 0 ∷ []) 1 ∷ loss 60000 ∷ []
+
+abbrev pub post : List Call
+post = block (pos 0 ∷ []) 1 ∷ []
+
 abbrev pub cs : List Call
-cs =
-    block (pos 1000000 ∷ negsuc 499999 ∷ pos 0 ∷ []) 3 ∷ loss 60000 ∷ instant t ∷ block (pos 0 ∷ []) 1 ∷ []
+cs = pre ++ (mid ++ instant t ∷ post)
 
 -- ---- the structs: order 1 and length 1, with the delay d, A1 and v1; the loss, the last output, and the place
 abbrev pub filter : ℕ → ℤ → ℤ → Filter
@@ -58,11 +66,11 @@ abbrev pub line : List ℤ
 line = pos 1000000 ∷ negsuc 499999 ∷ pos 499992 ∷ pos 330522 ∷ replicate 2108 (pos 0)
 
 abbrev pub codes : List ℕ
-codes = 0 ∷ 0 ∷ 0 ∷ 0 ∷ []
+codes = 0 ∷ 0 ∷ 0 ∷ 0 ∷ 0 ∷ []
 
 -- the instant change was run over one sample
 abbrev pub runs : List ℕ
-runs = 0 ∷ 0 ∷ 1 ∷ 0 ∷ []
+runs = 0 ∷ 0 ∷ 0 ∷ 1 ∷ 0 ∷ []
 
 abbrev pub samples : List ℤ
 samples = pos 0 ∷ pos 0 ∷ pos 1000000 ∷ negsuc 277962 ∷ []

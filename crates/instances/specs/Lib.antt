@@ -5,3 +5,6 @@ pub mod Single
 pub mod Routines
 pub mod Chain
 pub mod Sounds
+pub mod Spoken
+pub mod Heard
+pub mod Kept

@@ -6,11 +6,14 @@ use mathlib.Core.List.{List, [], _∷_, _++_}
 use Prim.Native.Nat.{ℕ}
 use lib.IntN.{ℤ, pos, negsuc}
 use lib.ListN.{getD, length, replicate}
-use Rattle.rule.specs.Voice.{Tuning, tuning}
+use Rattle.thiran.specs.Coefficients.{norm}
+use Rattle.allpass.specs.Bounds.{ownFigure}
+use Rattle.rule.specs.Voice.{Tuning, tuning, A}
 use Rattle.rule.specs.Calls.{Opening, Call, block, pluck, announce}
 use Rattle.rule.specs.History.{after, new}
 use Rattle.rule.specs.State.{fresh, puts}
 use Rattle.rule.specs.Click.{Figure}
+use Rattle.rule.specs.OwnFigure.{OwnFigure}
 use Rattle.list.specs.declared.Performed.{Performed}
 use Rattle.list.specs.Words.{calls, formed}
 use Rattle.list.specs.Performed.{performed, outputAfter, numbersAfter}
@@ -48,6 +51,10 @@ pub record Performing : Type 0 where
   pub figure : Figure output (after o (calls words input) .s) t 2 5 6
   pub voice : getD output 6 (pos 0) ≡ pos 197680
   pub filter : new t (after o (calls words input) .s) 6 ≡ pos 198126
+  -- by the change's own coefficients, which add up to 10,957
+  pub own-figure : OwnFigure 10957 output (after o (calls words input) .s) t 2 5 6
+  pub own-sum : norm (A t) ≡ 10957
+  pub own-number : ownFigure 10957 1 ≡ 3273961
 
 -- ---- a score: a pluck, three samples, a change, five samples
 abbrev pub bytes : List ℕ

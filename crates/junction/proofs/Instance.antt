@@ -1,5 +1,4 @@
--- Both filters of one junction, with every hypothesis met and a refused sample between: they do not differ at all
--- where the inputs before the move are 0, and by the figure where they are not.
+-- Both filters of one junction: the instance of specs/Instance.antt, from `Click`.
 use mathlib.Core.Path.{_≡_, refl}
 use mathlib.Core.List.{List, [], _∷_}
 use Prim.Native.Nat.{ℕ, zero, suc, _≤_, _<_}
@@ -11,25 +10,8 @@ use Rattle.junction.specs.Junction.{Side, fromLeft, fromRight, Two, at, 
 use Rattle.junction.specs.Calls.{Opening, Call, move, sample, number, openJunction, accept}
 use Rattle.junction.specs.History.{History, call, after, new}
 use Rattle.junction.specs.Click.{NoneBy}
+use Rattle.junction.specs.Instance.{two, o, post, pre, cs, Instance}
 use Rattle.junction.proofs.Click.{click}
-
-abbrev two : ℤ → ℤ → Two ℤ
-two a b = record { a = a; b = b }
-
-abbrev o : Opening
-o = record { left = 2; right = 1; d = 3000; Na = 2 }
-
--- the third is refused
-abbrev post : List Call
-post =
-    sample (two (pos 1000) (negsuc 1999)) ∷ sample (two (pos 5) (negsuc 8388607)) ∷ sample (two (pos 7) (pos 9))
-    ∷ sample (two (pos 5) (pos 6)) ∷ []
-
-abbrev pre : ℤ → ℤ → List Call
-pre a b = sample (two a b) ∷ []
-
-abbrev cs : ℤ → ℤ → List Call
-cs a b = sample (two a b) ∷ move 5000 ∷ post
 
 no-move : {x : Two ℤ} {d : ℕ} → sample x ≡ move d → ⊥
 no-move e = let z : _≡_ {A = ℕ} 0 1 = cc in omega arith
@@ -48,7 +30,7 @@ quiet fromLeft zero l = rw inputs-are
 quiet fromRight zero l = rw inputs-are
 quiet s (suc i) l = absurd (omega arith)
 
-pub exactly : (s : Side)
+exactly : (s : Side)
     → getD (at s (after o (cs (pos 0) (pos 0)) .filters)) 3 (pos 0)
     ≡ new s 5000 (at s (after o (cs (pos 0) (pos 0)) .inputs)) 3
 unfolding call number openJunction accept step settle
@@ -56,10 +38,13 @@ exactly s =
     click o (cs (pos 0) (pos 0)) (pre (pos 0) (pos 0)) post 5000 3 s refl refl (none-by 3 (call (after o (pre (pos 0) (pos 0))) (move 5000))) (omega arith)
     (omega arith) .same (quiet s)
 
-pub nearly : (s : Side)
+nearly : (s : Side)
     → natAbs (getD (at s (after o (cs (pos 300) (negsuc 400)) .filters)) 3 (pos 0)
     -ℤ new s 5000 (at s (after o (cs (pos 300) (negsuc 400)) .inputs)) 3) ≤ 6291456
 unfolding call number openJunction accept step settle figure
 nearly s =
     click o (cs (pos 300) (negsuc 400)) (pre (pos 300) (negsuc 400)) post 5000 3 s refl refl (none-by 3 (call (after o (pre (pos 300) (negsuc 400))) (move 5000)))
     (omega arith) (omega arith) .near
+
+pub instance : Instance
+instance = record { exactly = exactly; nearly = nearly }

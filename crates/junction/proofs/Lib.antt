@@ -10,4 +10,4 @@ pub mod Course
 pub mod Click
 pub mod InForce
 pub mod Literals
-mod Instance
+pub mod Instance

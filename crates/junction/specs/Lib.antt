@@ -8,3 +8,4 @@ pub mod Outputs
 pub mod Click
 pub mod Literals
 pub mod InForce
+pub mod Instance

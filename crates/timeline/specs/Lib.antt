@@ -6,3 +6,4 @@ pub mod Merged
 pub mod Timed
 pub mod Theorems
 pub mod Answered
+pub mod Instances

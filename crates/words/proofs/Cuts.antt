@@ -12,7 +12,7 @@ use lib.Dec.{eqb}
 use lib.ListN.{length, getD, take, drop, length-append, length-drop}
 use lib.Seq.{take-all, take-at, getD-append-add}
 use Rattle.words.specs.Words.{Before}
-use Rattle.words.specs.Pieces.{cut, past, piece, bare, Bares}
+use Rattle.words.specs.Pieces.{cut, past, piece, bare, Bares, BareLines}
 
 -- the first b of x ∷ s is behind x: it is the first of s
 behind : {b x : ℕ} {s : List ℕ} {r : ℕ} → Before b (x ∷ s) (suc r) → Before b s r
@@ -90,4 +90,14 @@ bares = record {
   goes = λ s. bare-goes (s ++ 13 ∷ []) (last s 13) ∙ take-at s (13 ∷ []) _ (sym (long s 13));
   stays = λ s b h. bare-stays (s ++ b ∷ []) (λ e. h (sym (last s b) ∙ e));
   empty = bare-empty [] refl;
+}
+
+pub bare-lines : BareLines
+bare-lines = record {
+  last = bares .goes (97 ∷ 98 ∷ []);
+  one-of-two = bares .goes (97 ∷ 13 ∷ []);
+  alone = bares .goes [];
+  inside = bares .stays (13 ∷ []) 97 (λ e. omega arith);
+  line-feed = bares .stays (97 ∷ 13 ∷ []) 10 (λ e. omega arith);
+  nothing = bares .empty;
 }

@@ -1,5 +1,5 @@
 -- A text cut where a byte stands, as lines by a line feed, and a line without the carriage return that ends it.
--- Definitions, and what is claimed of the last: proofs/Cuts.antt proves it. Assumes nothing.
+-- Definitions, and what is claimed of the last: proofs/Cuts.antt proves it, and of single lines from that.
 use mathlib.Core.Path.{_≡_}
 use mathlib.Core.Bool.{cond}
 use mathlib.Core.List.{List, [], _∷_, _++_}
@@ -40,3 +40,12 @@ pub record Bares : Type 0 where
   pub goes : (s : List ℕ) → bare (s ++ 13 ∷ []) ≡ s
   pub stays : (s : List ℕ) (b : ℕ) → (b ≡ 13 → ⊥) → bare (s ++ b ∷ []) ≡ s ++ b ∷ []
   pub empty : bare [] ≡ []
+
+-- at lines: a carriage return at the end, one of two, one alone, one before the end, a line feed, nothing
+pub record BareLines : Type 0 where
+  pub last : bare (97 ∷ 98 ∷ 13 ∷ []) ≡ 97 ∷ 98 ∷ []
+  pub one-of-two : bare (97 ∷ 13 ∷ 13 ∷ []) ≡ 97 ∷ 13 ∷ []
+  pub alone : bare (13 ∷ []) ≡ []
+  pub inside : bare (13 ∷ 97 ∷ []) ≡ 13 ∷ 97 ∷ []
+  pub line-feed : bare (97 ∷ 13 ∷ 10 ∷ []) ≡ 97 ∷ 13 ∷ 10 ∷ []
+  pub nothing : bare [] ≡ []

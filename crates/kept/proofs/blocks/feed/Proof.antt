@@ -29,7 +29,7 @@ block-requires : tie.Need-block-requires
 block-requires c κs = rw (c .before .before .unpack .ensures) (c .before .before .before .before .before .before .pre)
 
 pack-requires : tie.Need-pack-requires
-pack-requires c κs = search needs
+pack-requires c κs = c .before .before .block .ensures .0 .valid .fit
 
 same-length-2 : tie.Need-same-length-2
 same-length-2 c = search needs

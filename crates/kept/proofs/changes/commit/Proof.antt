@@ -10,7 +10,7 @@ commit-requires : tie.Need-commit-requires
 commit-requires c κs = rw (c .unpack .ensures) (c .before .before .pre)
 
 pack-requires : tie.Need-pack-requires
-pack-requires c κs = search needs
+pack-requires c κs = c .before .commit .ensures .fit
 
 returns : tie.Need-returns
 returns c =
