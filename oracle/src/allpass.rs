@@ -24,6 +24,11 @@ impl Allpass {
         Allpass { coefficients, state }
     }
 
+    /// The filter of an order and a d within the limits, in this state.
+    pub fn with_state(order: u32, d: u32, state: &[i128]) -> Allpass {
+        Allpass { coefficients: exact_coefficients(order, d), state: state.to_vec() }
+    }
+
     /// The state v1 to vN.
     pub fn state(&self) -> &[i128] {
         &self.state

@@ -1,10 +1,9 @@
 //! The lines that the console reads.
 
 use crate::call::Call;
-use crate::tuning::Tuning;
-
-/// "A block takes up to 4,096 samples in and out".
-pub const BLOCK_LIMIT: u32 = 4_096;
+use crate::spelling::{
+    bytes, numbers, places, sample, samples, tuning, unsigned, words, BLOCK_LIMIT,
+};
 
 /// "a run up to 16,384 samples of output".
 pub const RUN_LIMIT: u32 = 16_384;
@@ -17,6 +16,12 @@ pub const FILE_LIMIT: u32 = 16_384;
 
 /// `wavread ROOM B1 B2 ..`: "and 4,096 samples".
 pub const READ_LIMIT: u32 = 4_096;
+
+/// `store ROOM`: "at most 16,384, else error".
+pub const STORE_LIMIT: u32 = 16_384;
+
+/// `merge ROOM B1 .. / C1 ..`: "ROOM at most 32,768".
+pub const MERGE_LIMIT: u32 = 32_768;
 
 /// "bytes of a line, without its line feed".
 pub const LINE_BYTES: usize = 1_048_576;
@@ -38,67 +43,14 @@ pub enum Command {
     WavRead { places: usize, bytes: Vec<u8> },
     Gather { start: u32, bytes: Vec<u8> },
     Least { order: u32, delay: u32, wanted: u32 },
+    Junction { left: u32, right: u32, delay: u32, advance: u32 },
+    Move { delay: u32 },
+    Tube { a: i32, b: i32 },
+    Store { places: usize },
+    Load { bytes: Vec<u8> },
+    Panel { bytes: Vec<u8> },
+    Merge { places: usize, first: Vec<u8>, second: Vec<u8> },
     Help,
-}
-
-/// The words of a line: "separated by spaces or tabs; `#` starts a comment (to end of line)".
-pub fn words(line: &[u8]) -> Vec<&[u8]> {
-    let text = line.split(|byte| *byte == b'#').next().unwrap_or(line);
-    text.split(|byte| matches!(byte, b' ' | b'\t')).filter(|word| !word.is_empty()).collect()
-}
-
-/// "Numbers are decimal"; leading zeros are allowed, a `+` is not. Nothing from 2^32 on.
-fn unsigned(word: &[u8]) -> Option<u32> {
-    if word.is_empty() || !word.iter().all(u8::is_ascii_digit) {
-        return None;
-    }
-    let add = |value: u32, digit: &u8| value.checked_mul(10)?.checked_add(u32::from(digit - b'0'));
-    word.iter().try_fold(0, add)
-}
-
-/// "samples may have a `-`", from -2147483648 to 2147483647.
-fn sample(word: &[u8]) -> Option<i32> {
-    let value = match word.strip_prefix(b"-") {
-        Some(digits) => -i64::from(unsigned(digits)?),
-        None => i64::from(unsigned(word)?),
-    };
-    i32::try_from(value).ok()
-}
-
-/// "bytes are two hex digits each".
-fn byte(word: &[u8]) -> Option<u8> {
-    let digit = |at: usize| char::from(word[at]).to_digit(16);
-    match word.len() {
-        2 => u8::try_from(16 * digit(0)? + digit(1)?).ok(),
-        _ => None,
-    }
-}
-
-/// An unsigned number up to a limit, as a number of places.
-fn places(word: &[u8], limit: u32) -> Option<usize> {
-    unsigned(word).filter(|value| *value <= limit).map(|value| value as usize)
-}
-
-/// Exactly `COUNT` unsigned numbers: not "a word too many or too few".
-fn numbers<const COUNT: usize>(words: &[&[u8]]) -> Option<[u32; COUNT]> {
-    let values: Vec<u32> = words.iter().map(|word| unsigned(word)).collect::<Option<_>>()?;
-    values.try_into().ok()
-}
-
-/// `N L D`, what a change names.
-fn tuning(words: &[&[u8]]) -> Option<Tuning> {
-    numbers(words).map(|[order, length, delay]| Tuning { order, length, delay })
-}
-
-/// All the words as bytes.
-fn bytes(words: &[&[u8]]) -> Option<Vec<u8>> {
-    words.iter().map(|word| byte(word)).collect()
-}
-
-/// All the words as samples, at most 4,096.
-fn samples(words: &[&[u8]]) -> Option<Vec<i32>> {
-    let samples: Vec<i32> = words.iter().map(|word| sample(word)).collect::<Option<_>>()?;
-    (samples.len() <= BLOCK_LIMIT as usize).then_some(samples)
 }
 
 /// `block OUT X1 X2 ..`
@@ -131,6 +83,23 @@ fn run(words: &[&[u8]]) -> Option<Command> {
 fn gather(words: &[&[u8]]) -> Option<Command> {
     let (first, rest) = words.split_first()?;
     Some(Command::Gather { start: unsigned(first)?, bytes: bytes(rest)? })
+}
+
+/// `tube A B`
+fn tube(words: &[&[u8]]) -> Option<Command> {
+    match words {
+        [a, b] => Some(Command::Tube { a: sample(a)?, b: sample(b)? }),
+        _ => None,
+    }
+}
+
+/// `merge ROOM B1 .. / C1 ..`: "either list may be empty; exactly one `/`, else error".
+fn merge(words: &[&[u8]]) -> Option<Command> {
+    let (room, rest) = words.split_first()?;
+    let mut lists = rest.split(|word| word == b"/");
+    let (first, second) = (bytes(lists.next()?)?, bytes(lists.next()?)?);
+    let places = places(room, MERGE_LIMIT)?;
+    lists.next().is_none().then_some(Command::Merge { places, first, second })
 }
 
 /// A line that has words. `None` is "A line that is none of these", answered by `error`.
@@ -170,6 +139,21 @@ fn command(name: &[u8], rest: &[&[u8]]) -> Option<Command> {
         b"run" => run(rest),
         b"wavwrite" => wav_write(rest),
         b"wavread" => wav_read(rest),
+        b"junction" => numbers(rest).map(|[left, right, delay, advance]| Command::Junction {
+            left,
+            right,
+            delay,
+            advance,
+        }),
+        b"move" => numbers(rest).map(|[delay]| Command::Move { delay }),
+        b"tube" => tube(rest),
+        b"store" => match rest {
+            [room] => places(room, STORE_LIMIT).map(|places| Command::Store { places }),
+            _ => None,
+        },
+        b"load" => Some(Command::Load { bytes: bytes(rest)? }),
+        b"panel" => Some(Command::Panel { bytes: bytes(rest)? }),
+        b"merge" => merge(rest),
         b"help" => rest.is_empty().then_some(Command::Help),
         b"state" => rest.is_empty().then_some(Command::State),
         b"line" => match rest {

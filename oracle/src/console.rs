@@ -1,4 +1,4 @@
-//! The text console: one answer to each line, on one voice that it keeps.
+//! The text console: one answer to each line, on one voice and one junction that it keeps.
 
 use crate::advance::least;
 use crate::allpass::effective_length;
@@ -6,20 +6,24 @@ use crate::call::{Call, UNTOUCHED};
 use crate::command::{commands, lines, Command};
 use crate::expected::{expected, help};
 use crate::gather::gather;
+use crate::junction::Junction;
+use crate::merge::merge;
 use crate::noise::draw;
 use crate::note::note;
 use crate::record::read_record;
-use crate::refusal::number;
+use crate::refusal::{number, Answer};
 use crate::score::run;
+use crate::stored;
 use crate::thiran::coefficients;
 use crate::tuning::Tuning;
 use crate::voice::{s_at, Voice};
 use crate::wav;
 use std::fmt::Display;
 
-/// The console with the voice that it keeps.
+/// The console with the voice and the junction that it keeps.
 pub struct Console {
     voice: Voice,
+    junction: Junction,
 }
 
 /// A name and numbers, separated by single spaces.
@@ -52,12 +56,24 @@ fn answer_run(places: usize, bytes: &[u8]) -> String {
     join(&start, output)
 }
 
-/// `wavwrite R COUNT B1 B2 ..`, the lent bytes afterwards, 4d before the call.
-fn answer_wav_write(rate: u32, places: usize, samples: &[i32]) -> String {
+/// `NAME R COUNT B1 B2 ..`, the lent bytes afterwards, 4d before the call.
+fn answer_lent(
+    name: &str,
+    places: usize,
+    call: impl FnOnce(&mut [u8]) -> (Answer, usize),
+) -> String {
     let mut lent = vec![0x4d; places];
-    let (answer, count) = wav::write(rate, samples, &mut lent);
+    let (answer, count) = call(&mut lent);
     let bytes = lent.iter().map(|byte| format!("{byte:02x}"));
-    join(&format!("wavwrite {} {count}", number(&answer)), bytes)
+    join(&format!("{name} {} {count}", number(&answer)), bytes)
+}
+
+/// "Success: the length"; refused, "length 0".
+fn merge_into(first: &[u8], second: &[u8], lent: &mut [u8]) -> (Answer, usize) {
+    match merge(first, second, lent) {
+        Ok(length) => (Ok(()), length),
+        Err(refusal) => (Err(refusal), 0),
+    }
 }
 
 /// `wavread R RATE COUNT Y1 Y2 ..`, the lent samples afterwards.
@@ -68,10 +84,11 @@ fn answer_wav_read(places: usize, bytes: &[u8]) -> String {
 }
 
 impl Default for Console {
-    /// "before the first `open` it is Open's refusal voice".
+    /// "before the first `open` it is Open's refusal voice"; "one junction beside the voice, at first a refused one".
     fn default() -> Console {
         let (voice, _) = Voice::open(0, 0, 0, 0, 0);
-        Console { voice }
+        let (junction, _) = Junction::open(0, 0, 0, 0);
+        Console { voice, junction }
     }
 }
 
@@ -156,7 +173,7 @@ impl Console {
             Command::Record { bytes } => answer_record(bytes),
             Command::Run { places, bytes } => answer_run(*places, bytes),
             Command::WavWrite { rate, places, samples } => {
-                answer_wav_write(*rate, *places, samples)
+                answer_lent("wavwrite", *places, |lent| wav::write(*rate, samples, lent))
             }
             Command::WavRead { places, bytes } => answer_wav_read(*places, bytes),
             Command::State => self.answer_state(),
@@ -164,9 +181,43 @@ impl Console {
             Command::Gather { start, bytes } => {
                 format!("gather {}", gather(bytes, *start as usize))
             }
+            Command::Junction { left, right, delay, advance } => {
+                let (junction, answer) = Junction::open(*left, *right, *delay, *advance);
+                self.junction = junction;
+                format!("junction {}", number(&answer))
+            }
+            Command::Move { delay } => format!("move {}", number(&self.junction.move_to(*delay))),
+            Command::Tube { a, b } => {
+                let (answer, (right, left)) = self.junction.sample(*a, *b);
+                format!("tube {} {right} {left}", number(&answer))
+            }
+            Command::Store { places } => {
+                answer_lent("store", *places, |lent| stored::store(&self.voice, lent))
+            }
+            Command::Load { bytes } => {
+                let (voice, answer) = stored::load(bytes);
+                self.voice = voice;
+                format!("load {}", number(&answer))
+            }
+            Command::Panel { bytes } => {
+                let (answer, numbers) = stored::panel(bytes);
+                join(&format!("panel {}", number(&answer)), numbers)
+            }
+            Command::Merge { places, first, second } => {
+                answer_lent("merge", *places, |lent| merge_into(first, second, lent))
+            }
             Command::Help => help(),
         }
     }
+}
+
+/// The voice that the console keeps after a text.
+pub fn kept_voice(text: &[u8]) -> Voice {
+    let mut console = Console::default();
+    for command in commands(text).into_iter().filter_map(|(_, command)| command) {
+        console.answer(&command);
+    }
+    console.voice
 }
 
 /// What the console prints for a text: one answer to each line that is not empty, `error LINE` and

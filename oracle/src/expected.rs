@@ -1,8 +1,9 @@
 //! What the console says of a line that is no command, and in answer to `help`.
 
 use crate::command::{
-    words, BLOCK_LIMIT, FILE_LIMIT, LINE_BYTES, LINE_LIMIT, READ_LIMIT, RUN_LIMIT,
+    FILE_LIMIT, LINE_BYTES, LINE_LIMIT, MERGE_LIMIT, READ_LIMIT, RUN_LIMIT, STORE_LIMIT,
 };
+use crate::spelling::{words, BLOCK_LIMIT};
 
 /// Each call, in the order of docs/CONSOLE.md, with what follows its name.
 fn calls() -> Vec<(&'static str, String)> {
@@ -28,6 +29,13 @@ fn calls() -> Vec<(&'static str, String)> {
         ("wavread", "ROOM B1 B2 .. (ROOM at most READ)"),
         ("gather", "START B1 B2 .."),
         ("least", "N D WANTED"),
+        ("junction", "LEFT RIGHT D NA"),
+        ("move", "D"),
+        ("tube", "A B"),
+        ("store", "ROOM (at most STORE)"),
+        ("load", "B1 B2 .."),
+        ("panel", "B1 B2 .."),
+        ("merge", "ROOM B1 .. / C1 .. (ROOM at most MERGE)"),
         ("help", "nothing"),
     ];
     let limits = [
@@ -36,6 +44,8 @@ fn calls() -> Vec<(&'static str, String)> {
         ("LINE", LINE_LIMIT),
         ("FILE", FILE_LIMIT),
         ("READ", READ_LIMIT),
+        ("STORE", STORE_LIMIT),
+        ("MERGE", MERGE_LIMIT),
     ];
     let with_limits = |takes: &str| {
         limits

@@ -45,6 +45,12 @@ pub enum Refusal {
     CommitEarly = 20,
     /// Document 02: "21 commit or withdraw with nothing asked"
     NothingAsked = 21,
+    /// Document 02: "22 bytes missing or left over"
+    StoredLength = 22,
+    /// Document 02: "23 a part outside its limits or not in this form"
+    StoredPart = 23,
+    /// Document 02: "25 an area outside its limits"
+    Area = 25,
     /// Document 02: "28 the first 8 bytes differ"
     Headers = 28,
     /// Document 02: "29 a score that does not end alone"

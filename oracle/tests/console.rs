@@ -121,6 +121,56 @@ fn calls_are_listed() {
     assert!(
         listed.starts_with("help open takes N L D G NA; loss takes G; pluck takes A COUNT SEED; ")
     );
-    assert!(listed.ends_with("; least takes N D WANTED; help takes nothing\n"));
-    assert_eq!(listed.split("; ").count(), 22);
+    let last = "; merge takes ROOM B1 .. / C1 .. (ROOM at most 32768); help takes nothing\n";
+    assert!(listed.ends_with(last));
+    assert_eq!(listed.split("; ").count(), 29);
+}
+
+#[test]
+fn a_junction() {
+    assert_answers(&[
+        ("tube 5 6", "tube 0 0 0"),
+        ("tube 7 8", "tube 0 5 6"),
+        ("junction 0 1 0 65", "junction 25"),
+        ("junction 2 1 3000 1", "junction 0"),
+        ("move 5000", "move 0"),
+        ("move 5000", "move 6"),
+        ("tube 0 8388608", "tube 10 0 0"),
+        ("tube 1 2 3", "error 8 tube takes A B"),
+        ("tube 0 -0", "tube 0 0 0"),
+        ("move 6144", "move 3"),
+    ]);
+}
+
+#[test]
+fn a_stored_voice() {
+    assert_answers(&[
+        ("store 2", "store 0 1 00 4d"),
+        ("open 1 1 4096 65535 0", "open 0"),
+        ("store 4", "store 18 0 4d 4d 4d 4d"),
+        ("store 5", "store 0 5 02 ff ff 00 00"),
+        ("load 02 00 80 00 00", "load 0"),
+        ("state", "state 1 1 4096 32768 0 0 0 0 0 0 0 0 0 0 0 0 0 0 0 0"),
+        ("panel 02 00 80 00 00", "panel 0 1 4096 32768"),
+        ("load 02 00 80 00", "load 22"),
+        ("state", "state 1 1 4096 0 0 0 0 0 0 0 0 0 0 0 0 0 0 0 0 0"),
+        ("panel 02 00 00 01 00", "panel 23 1 4096 0"),
+        ("store 16385", "error 11 store takes ROOM (at most 16384)"),
+    ]);
+}
+
+#[test]
+fn a_merge() {
+    let header = "01 04 32 00 00 10 e8 fd";
+    let merge = |room: u32, first: &str, second: &str| {
+        answers(format!("merge {room} {header} {first} / {header} {second}").as_bytes())
+    };
+    assert_eq!(merge(12, "", "01 05 00"), format!("merge 0 11 {header} 01 05 00 4d\n"));
+    assert_eq!(merge(2, "", ""), "merge 30 0 4d 4d\n");
+    assert_eq!(merge(0, "01", ""), "merge 29 0\n");
+    assert_eq!(answers(b"merge 1 00 / 01"), "merge 28 0 4d\n");
+    let wrong = "error 1 merge takes ROOM B1 .. / C1 .. (ROOM at most 32768)\n";
+    for line in ["merge 1", "merge 1 00/ 01", "merge 1 / /", "merge 32769 /", "merge /"] {
+        assert_eq!(answers(line.as_bytes()), wrong);
+    }
 }

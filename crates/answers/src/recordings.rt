@@ -29,7 +29,7 @@ pub fn write(buffer: &mut [u8; 4096], at: usize, s: &[u8], l: Request) -> usize
     let mut given = [0i32; 4096];
     let list = l.list;
     let r = request::lists::samples(&s[list..], &mut given);
-    let mut lent = [77u8; 16384];
+    let mut lent = [77u8; 32768];
     let w = written(l.a, &given, r.count, &mut lent, l.places);
     let a = short(buffer, at, w.refusal);
     let b = number(buffer, a, w.count as u64);
@@ -52,7 +52,7 @@ pub fn read(buffer: &mut [u8; 4096], at: usize, s: &[u8], l: Request) -> usize
     let mut given = bytes_room();
     let list = l.list;
     let r = bytes(&s[list..], &mut given);
-    let mut lent = [77i32; 16384];
+    let mut lent = [77i32; 32768];
     let w = recorded(&given, r.count, &mut lent, l.places);
     let a = pair(buffer, at, w.refusal, w.rate);
     let b = number(buffer, a, w.count as u64);

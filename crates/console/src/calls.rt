@@ -53,10 +53,10 @@ pub fn blocked(
     head: Head,
     s: &[u8],
     list: usize,
-    output: &mut [i32; 16384],
+    output: &mut [i32; 32768],
     places: usize,
 ) -> Answer
-    requires { ⌜ Valid head (now line) × (list ≤ length (now s)) × (places ≤ 16384) ⌝ }
+    requires { ⌜ Valid head (now line) × (list ≤ length (now s)) × (places ≤ 32768) ⌝ }
     ensures { λ r. ⌜ Valid (r .head) (now (line .exit)) ⌝ }
 {
     let mut input = [0i32; 4096];

@@ -3,12 +3,14 @@
 ghost use Prim.Native.Nat.{_≤_};
 ghost use lib.ListN.{length};
 ghost use Rattle.voice.specs.Valid.{Valid};
+ghost use Rattle.tube.specs.Valid.{Valid as Joined};
+ghost use Rattle.tube.specs.Words.{fromWords};
 use crate::kept::Kept;
 use crate::kept::ROOM;
 use crate::kept::rest;
 use crate::kept::written;
-use crate::turn::Turn;
 use crate::turn::answered;
+use crate::voices::Turn;
 use voice::Head;
 use words::before;
 use words::pieces::bare;
@@ -25,25 +27,33 @@ fn next(index: u64) -> u64 {
 fn one(
     line: &mut [i32; 2112],
     head: Head,
+    junction: &mut [u32; 16],
     buffer: &mut [u8; 4096],
     at: usize,
     s: &[u8],
     index: u64,
     long: bool,
 ) -> Turn
-    requires { ⌜ Valid head (now line) ⌝ }
-    ensures { λ r. ⌜ Valid (r .head) (now (line .exit)) ⌝ }
+    requires { ⌜ Valid head (now line) × Joined (fromWords (now junction)) ⌝ }
+    ensures { λ r. ⌜ Valid (r .head) (now (line .exit)) × Joined (fromWords (now (junction .exit))) ⌝ }
 {
     if long {
         return Turn { head: head, at: at };
     }
-    answered(line, head, buffer, at, bare(s), index)
+    answered(line, head, junction, buffer, at, bare(s), index)
 }
 
 // Answers each line of a text that a line feed ends, as long as standard output takes the answers.
-fn whole(line: &mut [i32; 2112], k: Kept, buffer: &mut [u8; 4096], s: &[u8]) -> Kept
-    requires { ⌜ Valid (k .head) (now line) ⌝ }
-    ensures { λ r. ⌜ Valid (r .head) (now (line .exit)) × (r .held ≤ length (now (s .entry))) ⌝ }
+fn whole(
+    line: &mut [i32; 2112],
+    junction: &mut [u32; 16],
+    k: Kept,
+    buffer: &mut [u8; 4096],
+    s: &[u8],
+) -> Kept
+    requires { ⌜ Valid (k .head) (now line) × Joined (fromWords (now junction)) ⌝ }
+    ensures { λ r. ⌜ Valid (r .head) (now (line .exit)) × Joined (fromWords (now (junction .exit)))
+        × (r .held ≤ length (now (s .entry))) ⌝ }
 {
     let mut head = k.head;
     let mut at = k.at;
@@ -56,7 +66,7 @@ fn whole(line: &mut [i32; 2112], k: Kept, buffer: &mut [u8; 4096], s: &[u8]) -> 
             break;
         }
         let u = &t[e + 1..];
-        let r = one(line, head, buffer, at, &t[..e], index, long);
+        let r = one(line, head, junction, buffer, at, &t[..e], index, long);
         head = r.head;
         at = r.at;
         index = next(index);
@@ -75,16 +85,18 @@ fn whole(line: &mut [i32; 2112], k: Kept, buffer: &mut [u8; 4096], s: &[u8]) -> 
 // Answers what came, where the room now holds so many bytes.
 pub fn came(
     line: &mut [i32; 2112],
+    junction: &mut [u32; 16],
     k: Kept,
     buffer: &mut [u8; 4096],
     room: &mut [u8; ROOM],
     held: usize,
 ) -> Kept
-    requires { ⌜ Valid (k .head) (now line) × (held ≤ 1048577) ⌝ }
-    ensures { λ r. ⌜ Valid (r .head) (now (line .exit)) × (r .held ≤ 1048577) ⌝ }
+    requires { ⌜ Valid (k .head) (now line) × Joined (fromWords (now junction)) × (held ≤ 1048577) ⌝ }
+    ensures { λ r. ⌜ Valid (r .head) (now (line .exit)) × Joined (fromWords (now (junction .exit)))
+        × (r .held ≤ 1048577) ⌝ }
 {
     let s: &[u8] = room;
-    let d = whole(line, k, buffer, &s[..held]);
+    let d = whole(line, junction, k, buffer, &s[..held]);
     let n = rest(room, held, d.held, d.long);
     let h = d.head;
     let w = Kept {

@@ -1,17 +1,24 @@
-// The console: answers each line of standard input by a line, as it comes, by calls on one voice.
+// The console: answers each line of standard input by a line, as it comes, by calls on one voice and one
+// junction.
 // A read or a write that failed is said on standard error, and ends it.
 ghost use mathlib.Core.Path.{_≡_};
 ghost use Prim.Native.Nat.{_≤_};
 ghost use lib.ListN.{length};
 ghost use Rattle.voice.specs.Valid.{Valid};
+ghost use Rattle.tube.specs.Valid.{Valid as Joined};
+ghost use Rattle.tube.specs.Words.{fromWords};
 
 mod calls;
 mod kept;
 mod lines;
+mod merges;
 mod run;
 mod shown;
 mod start;
+mod stored;
+mod tubes;
 mod turn;
+mod voices;
 
 use calls::opened;
 use input::more;
@@ -21,6 +28,7 @@ use lines::came;
 use print::flush;
 use request::kinds::EMPTY;
 use request::plain;
+use tubes::open_junction;
 use turn::answered;
 
 // Room for a line.
@@ -31,15 +39,21 @@ fn line_room() -> [u8; ROOM]
 }
 
 // Answers the last line, which no line feed ends, and returns the place in the buffer.
-fn last(line: &mut [i32; 2112], k: Kept, buffer: &mut [u8; 4096], room: &[u8; ROOM]) -> usize
-    requires { ⌜ Valid (k .head) (now line) × (k .held ≤ 1048577) ⌝ }
+fn last(
+    line: &mut [i32; 2112],
+    junction: &mut [u32; 16],
+    k: Kept,
+    buffer: &mut [u8; 4096],
+    room: &[u8; ROOM],
+) -> usize
+    requires { ⌜ Valid (k .head) (now line) × Joined (fromWords (now junction)) × (k .held ≤ 1048577) ⌝ }
 {
     if k.long {
         return k.at;
     }
     let s: &[u8] = room;
     let held = k.held;
-    let r = answered(line, k.head, buffer, k.at, &s[..held], k.index);
+    let r = answered(line, k.head, junction, buffer, k.at, &s[..held], k.index);
     r.at
 }
 
@@ -51,31 +65,44 @@ fn complain(at: usize) {
 }
 
 // No more comes: the last line is answered, or it is said that the read failed.
-fn finish(line: &mut [i32; 2112], k: Kept, buffer: &mut [u8; 4096], room: &[u8; ROOM], failed: bool)
-    requires { ⌜ Valid (k .head) (now line) × (k .held ≤ 1048577) ⌝ }
+fn finish(
+    line: &mut [i32; 2112],
+    junction: &mut [u32; 16],
+    k: Kept,
+    buffer: &mut [u8; 4096],
+    room: &[u8; ROOM],
+    failed: bool,
+)
+    requires { ⌜ Valid (k .head) (now line) × Joined (fromWords (now junction)) × (k .held ≤ 1048577) ⌝ }
 {
     if failed {
         os::fail(b"console: standard input");
         return;
     }
-    let at = last(line, k, buffer, room);
+    let at = last(line, junction, k, buffer, room);
     complain(flush(buffer, at));
 }
 
 // Reads and answers until the input ends, a read fails, or standard output takes no more. A loop must end, so it
 // ends after 2^64 - 1 reads too.
-fn answer(line: &mut [i32; 2112], mut k: Kept, buffer: &mut [u8; 4096], room: &mut [u8; ROOM])
-    requires { ⌜ Valid (k .head) (now line) × (k .held ≤ 1048577) ⌝ }
+fn answer(
+    line: &mut [i32; 2112],
+    junction: &mut [u32; 16],
+    mut k: Kept,
+    buffer: &mut [u8; 4096],
+    room: &mut [u8; ROOM],
+)
+    requires { ⌜ Valid (k .head) (now line) × Joined (fromWords (now junction)) × (k .held ≤ 1048577) ⌝ }
 {
     let mut turns: u64 = 18_446_744_073_709_551_615;
     while 0 < turns {
         turns = turns - 1;
         let r = more(room, k.held);
         if r.held <= k.held {
-            finish(line, k, buffer, room, r.failed);
+            finish(line, junction, k, buffer, room, r.failed);
             return;
         }
-        let n = came(line, k, buffer, room, r.held);
+        let n = came(line, junction, k, buffer, room, r.held);
         k = n;
         if 4_096 < k.at {
             break;
@@ -84,12 +111,14 @@ fn answer(line: &mut [i32; 2112], mut k: Kept, buffer: &mut [u8; 4096], room: &m
     complain(k.at);
 }
 
-// Before any `open` the voice is the one that a refused Open returns.
+// Before any `open` the voice is that of a refused opening, and so is the junction before any `junction`.
 fn main() {
     let mut line = [0i32; 2112];
     let mut buffer = [0u8; 4096];
     let mut room = line_room();
     let first = opened(&mut line, plain(EMPTY));
+    let mut junction = [0u32; 16];
+    open_junction(&mut junction, 0, 0, 0, 0);
     let h = first.head;
     let k = Kept {
         head: h,
@@ -98,5 +127,5 @@ fn main() {
         held: 0,
         long: false,
     };
-    answer(&mut line, k, &mut buffer, &mut room);
+    answer(&mut line, &mut junction, k, &mut buffer, &mut room);
 }

@@ -18,8 +18,8 @@ fn played(given: &[u8; 349526], count: usize, output: &mut [i32], places: usize)
 }
 
 // The run of the bytes that a line lists from a place on.
-fn performed(s: &[u8], list: usize, output: &mut [i32; 16384], places: usize) -> Played
-    requires { ⌜ (list ≤ length (now s)) × (places ≤ 16384) ⌝ }
+fn performed(s: &[u8], list: usize, output: &mut [i32; 32768], places: usize) -> Played
+    requires { ⌜ (list ≤ length (now s)) × (places ≤ 32768) ⌝ }
 {
     let mut given = bytes_room();
     let r = bytes(&s[list..], &mut given);
@@ -28,9 +28,9 @@ fn performed(s: &[u8], list: usize, output: &mut [i32; 16384], places: usize) ->
 
 // The answer to a line that asks for a run.
 pub fn run(buffer: &mut [u8; 4096], at: usize, s: &[u8], list: usize, places: usize) -> usize
-    requires { ⌜ (list ≤ length (now s)) × (places ≤ 16384) ⌝ }
+    requires { ⌜ (list ≤ length (now s)) × (places ≤ 32768) ⌝ }
 {
-    let mut output = [77i32; 16384];
+    let mut output = [77i32; 32768];
     let r = performed(s, list, &mut output, places);
     let a = short(buffer, at, r.refusal);
     let b = number(buffer, a, r.place as u64);

@@ -1,135 +1,66 @@
 // One line of the text: read, called and answered.
-// What a line lends is made for its call.
-ghost use Prim.Native.Nat.{_≤_, _<_};
+ghost use Prim.Native.Nat.{_<_};
 ghost use lib.ListN.{length};
 ghost use Rattle.voice.specs.Valid.{Valid};
 ghost use Rattle.request.specs.InLine.{InLine};
-use crate::calls::blocked;
-use crate::calls::call;
-use crate::run::run;
-use crate::shown::past;
-use crate::shown::state;
-use crate::start::returned;
+ghost use Rattle.tube.specs.Valid.{Valid as Joined};
+ghost use Rattle.tube.specs.Words.{fromWords};
 use crate::start::start;
-use answers::asked;
+use crate::tubes::call_junction;
+use crate::voices::Turn;
+use crate::voices::turned;
 use print::bytes;
-use print::samples;
-use print::short;
 use request::Request;
-use request::kinds::BLOCK;
 use request::kinds::EMPTY;
-use request::kinds::LINE;
-use request::kinds::RUN;
-use request::kinds::STATE;
+use request::kinds::JUNCTION;
+use request::kinds::TUBE;
 use request::parse;
 use voice::Head;
 use words::before;
 
-// What is left after a line: the voice's head, and the place in the buffer.
-pub struct Turn {
-    pub head: Head,
-    pub at: usize,
-}
-
-// A call that lends nothing.
-fn called(
-    line: &mut [i32; 2112],
-    head: Head,
-    buffer: &mut [u8; 4096],
-    at: usize,
-    l: Request,
-) -> Turn
-    requires { ⌜ Valid head (now line) × (0 < l .kind) × (l .kind ≤ 8) ⌝ }
-    ensures { λ r. ⌜ Valid (r .head) (now (line .exit)) ⌝ }
-{
-    let c = call(line, head, l);
-    let h = c.head;
-    Turn {
-        head: h,
-        at: returned(buffer, at, l.kind, c.refusal, c.count),
+// Whether a line is a call on the junction.
+fn on_junction(kind: u32) -> bool {
+    if kind < JUNCTION {
+        return false;
     }
-}
-
-// A block, whose output holds 77 before the call.
-fn rendered(
-    line: &mut [i32; 2112],
-    head: Head,
-    buffer: &mut [u8; 4096],
-    at: usize,
-    s: &[u8],
-    l: Request,
-) -> Turn
-    requires { ⌜ Valid head (now line) × InLine (length (now s)) l ⌝ }
-    ensures { λ r. ⌜ Valid (r .head) (now (line .exit)) ⌝ }
-{
-    let mut output = [77i32; 16384];
-    let c = blocked(line, head, s, l.list, &mut output, l.places);
-    let h = c.head;
-    let a = short(buffer, at, c.refusal);
-    Turn {
-        head: h,
-        at: samples(buffer, a, &output, l.places),
-    }
-}
-
-// The answer to a line that leaves the voice as it is.
-fn told(
-    line: &[i32; 2112],
-    head: Head,
-    buffer: &mut [u8; 4096],
-    at: usize,
-    s: &[u8],
-    l: Request,
-) -> usize
-    requires { ⌜ Valid head (now line) × InLine (length (now s)) l ⌝ }
-{
-    if l.kind == STATE {
-        return state(buffer, at, head);
-    }
-    if l.kind == LINE {
-        return past(buffer, at, line, head.at, l.places);
-    }
-    if l.kind == RUN {
-        return run(buffer, at, s, l.list, l.places);
-    }
-    asked(buffer, at, s, l)
+    kind <= TUBE
 }
 
 // Makes the call of a line that is not empty, and answers it.
-fn turned(
+fn call_kept(
     line: &mut [i32; 2112],
     head: Head,
+    junction: &mut [u32; 16],
     buffer: &mut [u8; 4096],
     at: usize,
     s: &[u8],
     l: Request,
 ) -> Turn
-    requires { ⌜ Valid head (now line) × InLine (length (now s)) l × (0 < l .kind) ⌝ }
-    ensures { λ r. ⌜ Valid (r .head) (now (line .exit)) ⌝ }
+    requires { ⌜ Valid head (now line) × Joined (fromWords (now junction)) × InLine (length (now s)) l
+        × (0 < l .kind) ⌝ }
+    ensures { λ r. ⌜ Valid (r .head) (now (line .exit)) × Joined (fromWords (now (junction .exit))) ⌝ }
 {
-    if l.kind < BLOCK {
-        return called(line, head, buffer, at, l);
+    if on_junction(l.kind) {
+        return Turn {
+            head: head,
+            at: call_junction(junction, buffer, at, s, l),
+        };
     }
-    if l.kind == BLOCK {
-        return rendered(line, head, buffer, at, s, l);
-    }
-    Turn {
-        head: head,
-        at: told(line, head, buffer, at, s, l),
-    }
+    turned(line, head, buffer, at, s, l)
 }
 
 // Reads a line, which has no line feed, up to a comment, makes its call and answers it.
 pub fn answered(
     line: &mut [i32; 2112],
     head: Head,
+    junction: &mut [u32; 16],
     buffer: &mut [u8; 4096],
     at: usize,
     s: &[u8],
     index: u64,
 ) -> Turn
-    requires { ⌜ Valid head (now line) ⌝ }
-    ensures { λ r. ⌜ Valid (r .head) (now (line .exit)) ⌝ }
+    requires { ⌜ Valid head (now line) × Joined (fromWords (now junction)) ⌝ }
+    ensures { λ r. ⌜ Valid (r .head) (now (line .exit)) × Joined (fromWords (now (junction .exit))) ⌝ }
 {
     let n = before(s, b'#');
     let t = &s[..n];
@@ -138,7 +69,7 @@ pub fn answered(
         return Turn { head: head, at: at };
     }
     let a = start(buffer, at, t, index, l.kind);
-    let r = turned(line, head, buffer, a, t, l);
+    let r = call_kept(line, head, junction, buffer, a, t, l);
     let h = r.head;
     Turn {
         head: h,

@@ -105,7 +105,7 @@ pub fn short_signed(buffer: &mut [u8; 4096], at: usize, x: i32) -> usize
 }
 
 // The first samples of an output, as many as count.
-pub fn samples(buffer: &mut [u8; 4096], at: usize, output: &[i32; 16384], count: usize) -> usize
+pub fn samples(buffer: &mut [u8; 4096], at: usize, output: &[i32; 32768], count: usize) -> usize
     ensures { λ r. ⌜ (at ≤ 4097 → r ≤ 4097) ⌝ }
     ensures { λ r. ⌜ Signeds (take count (now (output .entry))) (now (buffer .entry)) at
         (now (buffer .exit)) r ⌝ }
@@ -133,7 +133,7 @@ pub fn hex(buffer: &mut [u8; 4096], at: usize, b: u8) -> usize
 }
 
 // The first bytes of a file, as many as count.
-pub fn file(buffer: &mut [u8; 4096], at: usize, file: &[u8; 16384], count: usize) -> usize
+pub fn file(buffer: &mut [u8; 4096], at: usize, file: &[u8; 32768], count: usize) -> usize
     ensures { λ r. ⌜ (at ≤ 4097 → r ≤ 4097) ⌝ }
     ensures { λ r. ⌜ Hexes (take count (now (file .entry))) (now (buffer .entry)) at
         (now (buffer .exit)) r ⌝ }

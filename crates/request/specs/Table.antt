@@ -29,6 +29,13 @@ table =
     ++ ascii "wavread takes ROOM B1 B2 .. (ROOM at most 4096)\n"
     ++ ascii "gather takes START B1 B2 ..\n"
     ++ ascii "least takes N D WANTED\n"
+    ++ ascii "junction takes LEFT RIGHT D NA\n"
+    ++ ascii "move takes D\n"
+    ++ ascii "tube takes A B\n"
+    ++ ascii "store takes ROOM (at most 16384)\n"
+    ++ ascii "load takes B1 B2 ..\n"
+    ++ ascii "panel takes B1 B2 ..\n"
+    ++ ascii "merge takes ROOM B1 .. / C1 .. (ROOM at most 32768)\n"
     ++ ascii "help takes nothing\n"
     ++ ascii "no call has this name: help lists them\n"
     ++ ascii "a line has at most 1048576 bytes\n"
@@ -39,9 +46,9 @@ row t kind = piece 10 (kind - 1) t
 abbrev pub name : List ℕ → ℕ → List ℕ
 name t kind = cut 32 (row t kind)
 
--- the kind that a word names by the rows of t: the first whose name it is, and 23 where it is none of the first 22
+-- the kind that a word names by the rows of t: the first whose name it is, and 30 where it is none of the first 29
 pub record Named (t w : List ℕ) (kind : ℕ) : Type 0 where
   pub least : 1 ≤ kind
-  pub most : kind ≤ 23
-  pub here : kind < 23 → w ≡ name t kind
+  pub most : kind ≤ 30
+  pub here : kind < 30 → w ≡ name t kind
   pub none : (k : ℕ) → 1 ≤ k → k < kind → w ≡ name t k → ⊥

@@ -1,5 +1,5 @@
 // The kinds of lines: their names, how many numbers follow each, and the largest counts of samples.
-// 0 is a line with no word, 23 one that is none of the others, and 24 one that is too long.
+// 0 is a line with no word, 30 one that is none of the others, and 31 one that is too long.
 ghost use Prim.Native.Nat.{_≤_};
 ghost use Rattle.request.specs.Table.{table as Table, Named};
 use crate::lists::Taken;
@@ -51,13 +51,27 @@ pub const GATHER: u32 = 20;
 
 pub const LEAST: u32 = 21;
 
-pub const HELP: u32 = 22;
+pub const JUNCTION: u32 = 22;
 
-pub const ERROR: u32 = 23;
+pub const MOVE: u32 = 23;
 
-pub const LONG: u32 = 24;
+pub const TUBE: u32 = 24;
 
-// The place of a word among the names of a table's rows, from 1; 23 where it is none of the first 22.
+pub const STORE: u32 = 25;
+
+pub const LOAD: u32 = 26;
+
+pub const PANEL: u32 = 27;
+
+pub const MERGE: u32 = 28;
+
+pub const HELP: u32 = 29;
+
+pub const ERROR: u32 = 30;
+
+pub const LONG: u32 = 31;
+
+// The place of a word among the names of a table's rows, from 1; 30 where it is none of the first 29.
 fn place(w: &[u8], table: &[u8]) -> u32
     ensures { λ r. ⌜ Named (now (table .entry)) (now (w .entry)) r ⌝ }
 {
@@ -88,17 +102,18 @@ pub fn wanted(kind: u32) -> usize
 {
     match kind {
         OPEN => 5,
+        JUNCTION => 4,
         PLUCK | ANNOUNCE | INSTANT | ASK | LENGTH | NOTE | LEAST => 3,
         COEFFICIENTS | WAVWRITE => 2,
-        LOSS | BLOCK | DRAW | RUN | LINE | WAVREAD | GATHER => 1,
+        LOSS | BLOCK | DRAW | RUN | LINE | WAVREAD | GATHER | MOVE | STORE | MERGE => 1,
         _ => 0,
     }
 }
 
 // A count of samples or bytes, at most as many as most.
 fn counted(n: u32, most: u32) -> Taken
-    requires { ⌜ most ≤ 16384 ⌝ }
-    ensures { λ r. ⌜ r .count ≤ 16384 ⌝ }
+    requires { ⌜ most ≤ 32768 ⌝ }
+    ensures { λ r. ⌜ r .count ≤ 32768 ⌝ }
 {
     if most < n {
         return Taken {
@@ -114,10 +129,16 @@ fn counted(n: u32, most: u32) -> Taken
 
 // How many samples or bytes a line lends or shows, where its first two numbers are n and m.
 pub fn lent(kind: u32, n: u32, m: u32) -> Taken
-    ensures { λ r. ⌜ r .count ≤ 16384 ⌝ }
+    ensures { λ r. ⌜ r .count ≤ 32768 ⌝ }
 {
     if kind == WAVWRITE {
         return counted(m, 16_384);
+    }
+    if kind == MERGE {
+        return counted(n, 32_768);
+    }
+    if kind == STORE {
+        return counted(n, 16_384);
     }
     if kind == WAVREAD {
         return counted(n, 4_096);

@@ -8,6 +8,7 @@ ghost use Rattle.request.specs.InLine.{InLine};
 pub mod kinds;
 pub mod lists;
 mod next;
+pub mod pairs;
 pub mod table;
 
 use kinds::EMPTY;

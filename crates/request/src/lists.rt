@@ -6,13 +6,19 @@ ghost use Prim.Native.Nat.{_≤_};
 ghost use lib.ListN.{length, replicate};
 use crate::kinds::BLOCK;
 use crate::kinds::GATHER;
+use crate::kinds::LOAD;
+use crate::kinds::MERGE;
+use crate::kinds::PANEL;
 use crate::kinds::RECORD;
 use crate::kinds::RUN;
+use crate::kinds::TUBE;
 use crate::kinds::WAVREAD;
 use crate::kinds::WAVWRITE;
 use crate::next::next_byte;
 use crate::next::next_number;
 use crate::next::next_sample;
+use crate::pairs::is_two_lists;
+use crate::pairs::is_two_samples;
 use words::word;
 
 // How far a list of words was read, or that one of them was not what it must be.
@@ -101,7 +107,7 @@ pub fn bytes(s: &[u8], into: &mut [u8; 349526]) -> Taken
 }
 
 // No word is left.
-fn ended(s: &[u8]) -> bool {
+pub fn ended(s: &[u8]) -> bool {
     let w = word(s);
     w.start == w.end
 }
@@ -121,7 +127,7 @@ pub fn bytes_room() -> [u8; 349526]
 }
 
 // A text is a list of bytes.
-fn byted(s: &[u8]) -> bool {
+pub fn byted(s: &[u8]) -> bool {
     let mut x = bytes_room();
     let r = bytes(s, &mut x);
     r.ok
@@ -135,7 +141,9 @@ pub fn listed(kind: u32, s: &[u8], numbers: bool, places: bool) -> bool
         if places {
             return match kind {
                 BLOCK | WAVWRITE => sampled(s),
-                RECORD | RUN | WAVREAD | GATHER => byted(s),
+                RECORD | RUN | WAVREAD | GATHER | LOAD | PANEL => byted(s),
+                TUBE => is_two_samples(s),
+                MERGE => is_two_lists(s),
                 _ => ended(s),
             };
         }

@@ -1,6 +1,6 @@
 // What each call takes, a row for each kind from OPEN to HELP in their order; then what is said of a line whose
 // name is none of these, and of one that is too long. No row has more than 64 bytes. specs/Table.antt has it too.
-pub const TABLE: [u8; 659] = *b"\
+pub const TABLE: [u8; 844] = *b"\
     open takes N L D G NA\n\
     loss takes G\n\
     pluck takes A COUNT SEED\n\
@@ -22,6 +22,13 @@ pub const TABLE: [u8; 659] = *b"\
     wavread takes ROOM B1 B2 .. (ROOM at most 4096)\n\
     gather takes START B1 B2 ..\n\
     least takes N D WANTED\n\
+    junction takes LEFT RIGHT D NA\n\
+    move takes D\n\
+    tube takes A B\n\
+    store takes ROOM (at most 16384)\n\
+    load takes B1 B2 ..\n\
+    panel takes B1 B2 ..\n\
+    merge takes ROOM B1 .. / C1 .. (ROOM at most 32768)\n\
     help takes nothing\n\
     no call has this name: help lists them\n\
     a line has at most 1048576 bytes\n";

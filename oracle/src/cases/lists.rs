@@ -4,7 +4,7 @@ use super::random::Random;
 use super::text::Text;
 
 /// One random call, or a line that shows the voice.
-fn any_call(text: &mut Text) {
+pub fn any_call(text: &mut Text) {
     match text.random.below(18) {
         0..=5 => text.short_block(),
         6..=7 => text.pluck(),

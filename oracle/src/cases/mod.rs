@@ -2,14 +2,17 @@
 
 pub mod asked;
 pub mod field;
+pub mod junctions;
 pub mod lines;
 pub mod lists;
+pub mod merges;
 pub mod notes;
 pub mod orders;
 pub mod random;
 pub mod recordings;
 pub mod score_fields;
 pub mod scores;
+pub mod stores;
 pub mod text;
 pub mod texts;
 pub mod words;
@@ -21,6 +24,7 @@ use crate::console::answers;
 use crate::player::play;
 use crate::refusal::number;
 use crate::score::run;
+use crate::stored::{load, stored};
 use crate::voice::Voice;
 use std::fs;
 use std::path::Path;
@@ -34,7 +38,7 @@ pub struct Case {
 /// What all the cases of one command reached.
 #[derive(Debug)]
 pub struct Report {
-    /// Answers by refusal number, 0 for success; from 22 to 31 there is none.
+    /// Answers by refusal number, 0 for success; 24, 26, 27 and 31 are none's.
     pub refusals: [u64; 33],
     /// Lines answered by `error`.
     pub errors: u64,
@@ -42,19 +46,54 @@ pub struct Report {
     pub tally: Tally,
 }
 
+/// What Open returned, and calls on it.
+type List = (Voice, Vec<Call>);
+
+/// The voice that a list leaves, stored.
+fn stored_by((opened, calls): &List) -> Vec<u8> {
+    let mut voice = opened.clone();
+    for call in calls {
+        call.make(&mut voice);
+    }
+    stored(&voice)
+}
+
+/// The list that goes on where these bytes are loaded: the one whose voice was stored so, "history from the original
+/// opening"; "Open's refusal voice", where they are refused; else none "until the next Open".
+fn resumed(bytes: &[u8], list: &Option<List>, kept: &[(Vec<u8>, List)]) -> Option<List> {
+    if let Some(now) = list.as_ref().filter(|list| stored_by(list) == bytes) {
+        return Some(now.clone());
+    }
+    let (voice, answer) = load(bytes);
+    let before = kept.iter().find(|(form, _)| form == bytes).map(|(_, list)| list.clone());
+    before.or(answer.is_err().then_some((voice, Vec::new())))
+}
+
 /// The lists of calls of a console text with what Open returned: "Opening anew begins another
-/// list. A score run opens a voice of its own".
-pub fn lists_of(text: &[u8]) -> Vec<(Voice, Vec<Call>)> {
+/// list. A score run opens a voice of its own". A load goes on with the list whose voice was stored.
+pub fn lists_of(text: &[u8]) -> Vec<List> {
     let (refused, _) = Voice::open(0, 0, 0, 0, 0);
     let mut lists = Vec::new();
-    let mut list = (refused, Vec::new());
+    let mut list = Some((refused, Vec::new()));
+    let mut kept = Vec::new();
     for (_, command) in commands(text) {
         match command {
             Some(Command::Open { order, length, delay, loss, advance }) => {
                 let (voice, _) = Voice::open(order, length, delay, loss, advance);
-                lists.push(std::mem::replace(&mut list, (voice, Vec::new())));
+                lists.extend(list.replace((voice, Vec::new())));
             }
-            Some(Command::Call(call)) => list.1.push(call),
+            Some(Command::Call(call)) => {
+                if let Some(list) = &mut list {
+                    list.1.push(call);
+                }
+            }
+            Some(Command::Store { .. }) => {
+                kept.extend(list.clone().map(|list| (stored_by(&list), list)));
+            }
+            Some(Command::Load { bytes }) => {
+                let next = resumed(&bytes, &list, &kept);
+                lists.extend(std::mem::replace(&mut list, next));
+            }
             Some(Command::Run { places, bytes }) => {
                 let run = run(&bytes, &mut vec![0; places]);
                 lists.extend(run.opened.map(|opened| (opened, run.list)));
@@ -62,7 +101,7 @@ pub fn lists_of(text: &[u8]) -> Vec<(Voice, Vec<Call>)> {
             _ => {}
         }
     }
-    lists.push(list);
+    lists.extend(list);
     lists
 }
 
@@ -75,7 +114,7 @@ impl Default for Report {
 impl Report {
     /// The numbers that answers have, and how often each was reached.
     pub fn numbers(&self) -> impl Iterator<Item = (usize, u64)> + '_ {
-        (0..=21).chain([32]).map(|number| (number, self.refusals[number]))
+        (0..=23).chain([25, 28, 29, 30, 32]).map(|number| (number, self.refusals[number]))
     }
 
     /// Counts the refusal numbers in the answers of the console.

@@ -1,10 +1,10 @@
 //! Random console texts.
 
 use super::random::Random;
-use super::{asked, lines, lists, orders, recordings, words};
+use super::{asked, junctions, lines, lists, merges, orders, recordings, stores, words};
 
 /// The number of kinds of text; case `index` has the kind `index` modulo this.
-const KINDS: u64 = 26;
+const KINDS: u64 = 32;
 
 /// The same lines, with a carriage return before each line feed.
 fn with_returns(text: &[u8]) -> Vec<u8> {
@@ -46,6 +46,15 @@ fn plain(seed: u64, index: u64) -> Vec<u8> {
         20 => recordings::damaged(random).bytes(),
         21..=22 => asked::asked(random).bytes(),
         23..=24 => orders::orders(random).bytes(),
+        25 => junctions::moving(random).bytes(),
+        26 => junctions::limits(random).bytes(),
+        27 => stores::resumed(random).bytes(),
+        28 => stores::on_limits(random).bytes(),
+        29 => match random.one_in(2) {
+            true => stores::damaged(random).bytes(),
+            false => merges::damaged(random).bytes(),
+        },
+        30 => merges::pairs(random).bytes(),
         _ => words::words(random).bytes(),
     }
 }

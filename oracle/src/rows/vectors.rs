@@ -1,6 +1,6 @@
 //! All rows as one text of the console.
 
-use super::{files, gathers, notes, records, scores, voices};
+use super::{files, gathers, junctions, merges, notes, records, scores, stored, voices};
 
 /// Bytes as words of the console, a space before each.
 pub fn hex(bytes: &[u8]) -> String {
@@ -16,6 +16,9 @@ pub fn text() -> String {
         scores::lines(),
         gathers::lines(),
         files::lines(),
+        junctions::lines(),
+        stored::lines(),
+        merges::lines(),
     ];
     rows.concat().iter().map(|line| format!("{line}\n")).collect()
 }

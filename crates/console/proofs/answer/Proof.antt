@@ -4,15 +4,17 @@ use Prim.Native.Nat.{_≤_}
 use native.Mathlib.Omega.{arith}
 use borrow.Author.Needs.{needs}
 use Rattle.voice.specs.Valid.{Valid}
+use Rattle.tube.specs.Valid.{Valid as Joined}
+use Rattle.tube.specs.Words.{fromWords}
 use Rattle.console.proofs.answer.Statement.{statement}
 use Rattle.console.proofs.answer.Tie as tie
 
 abbrev Inv-loop : tie.InvT-loop
-Inv-loop line₀ k₀ buffer₀ room₀ turns₀ line k buffer room turns =
-    Valid (k .head) line × (k .held ≤ 1048577)
+Inv-loop line₀ junction₀ k₀ buffer₀ room₀ turns₀ line junction k buffer room turns =
+    Valid (k .head) line × Joined (fromWords junction) × (k .held ≤ 1048577)
 
 abbrev μ-loop : tie.MeasureT-loop
-μ-loop line₀ k₀ buffer₀ room₀ turns₀ line k buffer room turns = turns
+μ-loop line₀ junction₀ k₀ buffer₀ room₀ turns₀ line junction k buffer room turns = turns
 
 loop-holds : tie.Need-loop-holds Inv-loop μ-loop
 loop-holds c = search needs
@@ -34,7 +36,7 @@ came-requires c κs = search needs
 
 loop-less : tie.Need-loop-less Inv-loop μ-loop
 loop-less c =
-    let l = c .before .before .before .before .before .before .before .before .before .before .before in
+    let l = c .before .before .before .before .before .before .before .before .before .before .before .before in
     omega (arith, l .loop-test .taken)
 
 loop-again : tie.Need-loop-again Inv-loop μ-loop

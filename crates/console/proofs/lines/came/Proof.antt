@@ -11,7 +11,7 @@ use Rattle.console.proofs.lines.came.Tie as tie
 
 slice-aggregate-whole : tie.Need-slice-aggregate-whole
 slice-aggregate-whole c =
-    let s = c .before .before .before .before .before in
+    let s = c .before .before .before .before .before .before in
     sym (length-take-le (s .args .held) (s .args .room .now) (omega arith))
 
 whole-requires : tie.Need-whole-requires
@@ -19,9 +19,9 @@ whole-requires c κs = search needs
 
 rest-requires : tie.Need-rest-requires
 rest-requires c κs =
-    let s = c .before .before .before .before .before .before .before in
-    let n = length-take-le (s .args .held) (s .args .room .now) (omega (arith, s .pre .1)) in
-    (omega (arith, n, c .before .whole .ensures .1), s .pre .1)
+    let s = c .before .before .before .before .before .before .before .before in
+    let n = length-take-le (s .args .held) (s .args .room .now) (omega (arith, s .pre .2)) in
+    (omega (arith, n, c .before .whole .ensures .2), s .pre .2)
 
 written-requires : tie.Need-written-requires
 written-requires c κs = search needs
@@ -30,7 +30,7 @@ returns : tie.Need-returns
 returns c =
     let d = c .before .before .before .before .before .whole in
     let e = c .written .ensures in
-    (subst (λ (h : Head). Valid h (d .last .0)) (sym (e .0)) (d .ensures .0), e .1)
+    (subst (λ (h : Head). Valid h (d .last .0)) (sym (e .0)) (d .ensures .0), d .ensures .1, e .1)
 
 pub came-spec : {M : Type 1} → statement M
 came-spec =

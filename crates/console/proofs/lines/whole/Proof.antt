@@ -6,15 +6,17 @@ use borrow.Author.Needs.{needs}
 use lib.ListN.{length}
 use lib.Seq.{length-take-le}
 use Rattle.voice.specs.Valid.{Valid}
+use Rattle.tube.specs.Valid.{Valid as Joined}
+use Rattle.tube.specs.Words.{fromWords}
 use Rattle.console.proofs.lines.whole.Statement.{statement}
 use Rattle.console.proofs.lines.whole.Tie as tie
 
 abbrev Inv-loop : tie.InvT-loop
-Inv-loop line₀ buffer₀ s head₀ at₀ index₀ long₀ t₀ line buffer head at index long t =
-    Valid head line × (length t ≤ length s)
+Inv-loop line₀ junction₀ buffer₀ s head₀ at₀ index₀ long₀ t₀ line junction buffer head at index long t =
+    Valid head line × Joined (fromWords junction) × (length t ≤ length s)
 
 abbrev μ-loop : tie.MeasureT-loop
-μ-loop line₀ buffer₀ s head₀ at₀ index₀ long₀ t₀ line buffer head at index long t = length t
+μ-loop line₀ junction₀ buffer₀ s head₀ at₀ index₀ long₀ t₀ line junction buffer head at index long t = length t
 
 loop-holds : tie.Need-loop-holds Inv-loop μ-loop
 loop-holds c = search needs
@@ -36,7 +38,7 @@ part-u-end c = search needs
 
 slice-aggregate-one : tie.Need-slice-aggregate-one Inv-loop μ-loop
 slice-aggregate-one c =
-    let e = c .before .before .before .before .before in
+    let e = c .before .before .before .before .before .before in
     sym (length-take-le (e .before2 .result) (e .before .before .loop .t .now) (e .before2 .ensures .within))
 
 one-requires : tie.Need-one-requires Inv-loop μ-loop

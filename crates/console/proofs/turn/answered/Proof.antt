@@ -23,8 +23,8 @@ returns c = search needs
 start-requires : tie.Need-start-requires
 start-requires c κs = search needs
 
-turned-requires : tie.Need-turned-requires
-turned-requires c κs = search needs
+call-kept-requires : tie.Need-call-kept-requires
+call-kept-requires c κs = search needs
 
 slice-aggregate-bytes : tie.Need-slice-aggregate-bytes
 slice-aggregate-bytes c = search needs
@@ -44,7 +44,7 @@ answered-spec =
     parse-requires
     returns
     start-requires
-    turned-requires
+    call-kept-requires
     slice-aggregate-bytes
     bytes-requires
     returns-2)
