@@ -8,6 +8,8 @@ int main(void)
     static Row rows[ROWS];
     static double read[READINGS][READERS];
     double wav[2][2] = { { 0, 0 }, { 0, 0 } }, merge[MERGES] = { 0 }, tube[2][2] = { { 0, 0 }, { 0, 0 } };
+    static const char *const calls[STORES] = { "stored", "loaded", "shown on the panel" };
+    double keep[STORES][2] = { { 0, 0 } };
     int agree = 1;
     make_rows(rows);
     for (int round = 0; round < ROUNDS; round++) {
@@ -19,6 +21,8 @@ int main(void)
         for (int k = 0; k < MERGES; k++)
             agree &= time_merge(k, &merge[k]);
         agree &= time_junction(0, tube[0]) && time_junction(1, tube[1]);
+        for (int k = 0; k < STORES; k++)
+            agree &= time_stored(k, keep[k]);
     }
     for (int i = 0; i < ROWS; i++)
         agree &= rows[i].agree;
@@ -32,6 +36,9 @@ int main(void)
     for (int k = 0; k < 2; k++)
         printf("junction, %s: C %.1f, proved %.1f ns a sample, ratio %.2f\n", k ? "a move waits" : "nothing waits",
                1e9 * tube[k][0], 1e9 * tube[k][1], tube[k][0] / tube[k][1]);
+    for (int k = 0; k < STORES; k++)
+        printf("voice %s: C %.0f, proved %.0f ns, ratio %.2f\n", calls[k], 1e9 * keep[k][0], 1e9 * keep[k][1],
+               keep[k][0] / keep[k][1]);
     printf(agree ? "every number and every sample agrees\n" : "NOT ALL AGREE\n");
     return agree ? 0 : 1;
 }

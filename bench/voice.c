@@ -9,7 +9,7 @@ static int64_t nearest(int64_t p, int64_t q)
     return t - (u % m < 0);
 }
 
-static Filter resting(uint32_t order, uint32_t length, uint32_t delay)
+Filter filter_at_rest(uint32_t order, uint32_t length, uint32_t delay)
 {
     Filter f = { 0, 0, 0, 0, 0, 0, order, length, delay };
     int64_t d = delay;
@@ -45,7 +45,7 @@ uint32_t open_voice(Voice *v, uint32_t order, uint32_t length, uint32_t delay, u
     memset(v, 0, sizeof *v);
     v->loss = code ? 0 : loss;
     v->advance = code ? 0 : advance;
-    v->filter = code ? resting(1, 1, 4096) : resting(order, length, delay);
+    v->filter = code ? filter_at_rest(1, 1, 4096) : filter_at_rest(order, length, delay);
     return code;
 }
 
@@ -76,7 +76,7 @@ uint32_t change(Voice *v, uint32_t order, uint32_t length, uint32_t delay, int k
         return code;
     if (v->waits)
         return 6;
-    Filter f = resting(order, length, delay);
+    Filter f = filter_at_rest(order, length, delay);
     if (kind == INSTANT) {
         for (uint32_t k = v->advance; k > 0; k--) {
             int64_t u = f.a1 * f.v1 + (f.a2 * f.v2 + f.a3 * f.v3);

@@ -2,13 +2,13 @@
    where `cc host.c $(pkg-config --cflags --libs jivaszte)` finds it.
 
    Every routine is safe for every number and every byte, but that the calls on a jivaszte_voice and a jivaszte_junction
-   ask for one that was opened. Of its pointers a caller owes what C always asks: none is
+   ask for one that was opened, or loaded. Of its pointers a caller owes what C always asks: none is
    null, not even with length 0; each refers to as many values as its length or its type says; and what is written
    overlaps nothing else that is passed. No routine keeps a pointer, allocates, or touches a variable of its own:
    calls in several threads do not disturb each other.
 
    A routine that can refuse returns 0, or the number of the first test that was not met, and then leaves 0 in what
-   it is lent for its results. docs/PERFORMANCE.md tells how much stack a run takes. */
+   it is lent for its results, but where it says otherwise. docs/PERFORMANCE.md tells how much stack a run takes. */
 #ifndef JIVASZTE_H
 #define JIVASZTE_H
 
@@ -49,6 +49,8 @@ enum {
     JIVASZTE_FILE_FORM = 19,
     JIVASZTE_COMMIT_EARLY = 20,
     JIVASZTE_NOTHING_ASKED = 21,
+    JIVASZTE_STORED_LENGTH = 22,
+    JIVASZTE_STORED_PART = 23,
     JIVASZTE_AREA = 25,
     JIVASZTE_HEADERS = 28,
     JIVASZTE_ALONE = 29,
@@ -83,6 +85,10 @@ static inline const char *jivaszte_words(uint32_t number)
         "no asked change waits",
     };
     switch (number) {
+    case 22:
+        return "the stored bytes are too few or too many";
+    case 23:
+        return "a part of the stored voice is outside its limits";
     case 25:
         return "an area is outside 1 to 65535";
     case 28:
@@ -191,10 +197,10 @@ uint32_t jivaszte_perform(uint32_t order, uint32_t length, uint32_t delay, uint3
                           size_t room, uint32_t *numbers, size_t places, uint32_t *opening, size_t *written);
 
 /* A voice that the host keeps, 8,556 bytes: open it, render block after block, and make calls in between. Its fields are
-   for the routines below alone. A host owes three things: a voice is opened before anything else is called on it, nothing
-   but these routines writes to it, and one thread at a time uses it. It may be copied whole, which makes a second voice;
-   several voices do not disturb each other. After an opening that was refused it holds the refusal voice: order 1, length
-   1, delay 4,096, loss 0, advance 0, at rest. */
+   for the routines below alone. A host owes three things: a voice is opened or loaded before anything else is called on
+   it, nothing but these routines writes to it, and one thread at a time uses it. It may be copied whole, which makes a
+   second voice; several voices do not disturb each other. After an opening that was refused it holds the refusal voice:
+   order 1, length 1, delay 4,096, loss 0, advance 0, at rest. */
 enum { JIVASZTE_HEAD = 27, JIVASZTE_LINE = 2112 };
 typedef struct {
     uint32_t head[JIVASZTE_HEAD];
@@ -217,6 +223,8 @@ uint32_t jivaszte_packed_block(uint32_t *head, int32_t *line, const int32_t *inp
 uint32_t jivaszte_packed_play(uint32_t *head, int32_t *line, int32_t *output, size_t count);
 uint32_t jivaszte_packed_waits(const uint32_t *head);
 uint32_t jivaszte_packed_check(const uint32_t *head, const int32_t *line);
+uint32_t jivaszte_packed_store(const uint32_t *head, const int32_t *line, uint8_t *bytes, size_t room, size_t *length);
+uint32_t jivaszte_packed_load(uint32_t *head, int32_t *line, const uint8_t *bytes, size_t length);
 
 /* Opens a voice, whatever the memory held. Refuses by 1, 2, 3, 4, 5. */
 static inline uint32_t jivaszte_voice_open(jivaszte_voice *voice, uint32_t order, uint32_t length, uint32_t delay,
@@ -294,6 +302,29 @@ static inline uint32_t jivaszte_voice_check(const jivaszte_voice *voice)
 {
     return jivaszte_packed_check(voice->head, voice->line);
 }
+
+/* The most bytes that a stored voice has. */
+#define JIVASZTE_STORED_MOST 8529
+
+/* Stores a voice: a byte that says which parts follow, and the parts that differ from those of the refusal voice. length
+   is how many bytes that is; nothing past them is touched, and the voice stays as it is. The bytes do not depend on the
+   machine. Refuses by 18 where the room is shorter, and then length is 0, and no byte is touched. */
+static inline uint32_t jivaszte_voice_store(const jivaszte_voice *voice, uint8_t *bytes, size_t room, size_t *length)
+{
+    return jivaszte_packed_store(voice->head, voice->line, bytes, room, length);
+}
+
+/* Loads a stored voice, whatever the memory held: it goes on as if it had never stopped. Any bytes are safe. Refuses by
+   22, 23, and then leaves the refusal voice. Bytes that pass but that no voice stored load a voice too; until it is
+   opened anew, the click figure is not claimed for it. */
+static inline uint32_t jivaszte_voice_load(jivaszte_voice *voice, const uint8_t *bytes, size_t length)
+{
+    return jivaszte_packed_load(voice->head, voice->line, bytes, length);
+}
+
+/* The length, the delay and the loss of a stored voice, for a panel that shows no more. Refuses by 22, 23 as loading
+   does, and then gives those of the refusal voice: 1, 4,096 and 0. */
+uint32_t jivaszte_panel(const uint8_t *bytes, size_t length, uint32_t *string_length, uint32_t *delay, uint32_t *loss);
 
 /* Plays a score on a voice of its own, whose order its changes keep. Refuses by 14, those of the opening (1, 2, 3, 5),
    and at a record by 14, 15, 16, 2, 3, 6, 7, 8. place is the index of the record that was refused, the count of records

@@ -1,7 +1,8 @@
 //! The routines of include/jivaszte.h as they are linked. Every number and every byte is safe; of the
 //! pointers they ask what Rust's references give: valid for their lengths, and no overlap. Those over a
-//! head ask for a voice that `jivaszte_packed_open` made, which src/voice.rs alone gives them, and those
-//! over a junction for one that `jivaszte_junction_open` made, which src/junction.rs alone gives them.
+//! head ask for a voice that `jivaszte_packed_open` or `jivaszte_packed_load` made, which src/voice.rs and
+//! src/stored.rs alone give them, and those over a junction for one that `jivaszte_junction_open` made,
+//! which src/junction.rs alone gives them.
 
 #[link(name = "jivaszte", kind = "static")]
 extern "C" {
@@ -96,6 +97,26 @@ extern "C" {
     ) -> u32;
     pub fn jivaszte_packed_waits(head: &[u32; 27]) -> u32;
     pub fn jivaszte_packed_check(head: &[u32; 27], line: &[i32; 2112]) -> u32;
+    pub fn jivaszte_packed_store(
+        head: &[u32; 27],
+        line: &[i32; 2112],
+        bytes: *mut u8,
+        room: usize,
+        length: &mut usize,
+    ) -> u32;
+    pub fn jivaszte_packed_load(
+        head: &mut [u32; 27],
+        line: &mut [i32; 2112],
+        bytes: *const u8,
+        length: usize,
+    ) -> u32;
+    pub fn jivaszte_panel(
+        bytes: *const u8,
+        length: usize,
+        string_length: &mut u32,
+        delay: &mut u32,
+        loss: &mut u32,
+    ) -> u32;
     pub fn jivaszte_run(
         score: *const u8,
         length: usize,

@@ -1,8 +1,8 @@
 //! A plucked string with a tunable allpass loop, proved: the routines of jivaszte.h as safe functions.
 //!
 //! What the library refuses comes back as a [`Refusal`], which has the number and the words. A [`Voice`] is
-//! the caller's own memory; the library keeps nothing, and no call allocates but [`wav_file`] and
-//! [`Call::list`].
+//! the caller's own memory; the library keeps nothing, and no call allocates but [`wav_file`],
+//! [`Call::list`] and [`Voice::to_bytes`].
 //!
 //! ```
 //! use jivaszte::{note, Refusal};
@@ -17,6 +17,7 @@ mod junction;
 mod list;
 mod refusal;
 mod score;
+mod stored;
 mod voice;
 mod wav;
 
@@ -25,6 +26,7 @@ pub use junction::Junction;
 pub use list::{perform, Call, Opening, Performed};
 pub use refusal::Refusal;
 pub use score::{gather, merge, record, run, Played, Record, Stopped};
+pub use stored::{panel, Panel, STORED_MOST};
 pub use voice::Voice;
 pub use wav::{wav_file, wav_read, wav_size, wav_write, MOST_SAMPLES};
 

@@ -68,6 +68,8 @@ refusals! {
     19 FileForm "the bytes are no WAV file of one channel and 24 bits in the form that is written"
     20 CommitEarly "the asked change has taken fewer samples than the advance"
     21 NothingAsked "no asked change waits"
+    22 StoredLength "the stored bytes are too few or too many"
+    23 StoredPart "a part of the stored voice is outside its limits"
     25 Area "an area is outside 1 to 65535"
     28 Headers "the first 8 bytes of the scores differ"
     29 Alone "one of the scores does not play to its end alone"

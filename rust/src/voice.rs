@@ -4,8 +4,8 @@ use crate::c;
 use crate::{Opening, Refusal};
 use std::fmt;
 
-/// A voice of 8,556 bytes in the caller's memory. [`Voice::open`] makes it, and only the calls below change
-/// it, so that safe code cannot give the library any other. A clone goes on by itself.
+/// A voice of 8,556 bytes in the caller's memory. [`Voice::open`] and [`Voice::from_bytes`] make it, and only
+/// the calls below change it, so that safe code cannot give the library any other. A clone goes on by itself.
 ///
 /// ```
 /// use jivaszte::{Opening, Refusal, Voice};
@@ -23,8 +23,8 @@ use std::fmt;
 /// ```
 #[derive(Clone)]
 pub struct Voice {
-    head: [u32; 27],
-    line: [i32; 2112],
+    pub(crate) head: [u32; 27],
+    pub(crate) line: [i32; 2112],
 }
 
 impl Voice {
@@ -52,8 +52,8 @@ impl Voice {
         })
     }
 
-    // SAFETY of all that follows: head and line are a voice, since an opening made them and each call leaves one;
-    // the slices are valid for their lengths, and overlap neither each other nor the voice.
+    // SAFETY of all that follows: head and line are a voice, since an opening or a load made them and each call
+    // leaves one; the slices are valid for their lengths, and overlap neither each other nor the voice.
 
     /// Sets the loss. Refuses by `Loss`.
     pub fn loss(&mut self, loss: u32) -> Result<(), Refusal> {

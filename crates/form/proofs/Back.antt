@@ -14,7 +14,7 @@ use Rattle.allpass.specs.Stored.{stored, entries, held}
 use Rattle.allpass.specs.declared.State.{State as Three}
 use Rattle.rule.specs.Voice.{Tuning, tuning}
 use Rattle.form.specs.Numbers.{Change, Numbers, changeOf, numbersOf, waitingOf, stateOf}
-use Rattle.form.specs.Limits.{filtering, amount, coming, plucking, limits}
+use Rattle.form.specs.Limits.{filterLimits, amount, changeLimits, pluckLimits, limits}
 use Rattle.form.proofs.Limits.{parted, four}
 
 zero-only : (x : ℤ) → natAbs x ≤ 0 → pos 0 ≡ x
@@ -46,7 +46,7 @@ past-order (suc (suc zero)) v n h = same-three v refl refl (zero-only (v .v3) (o
 past-order (suc (suc (suc zero))) v n h = refl
 past-order (suc (suc (suc (suc N)))) v n h = absurd (omega arith)
 
-filter-back : (t : Tuning) (v : Three) → AllKept (filtering t v) → stored (held (t .N) v) ≡ v
+filter-back : (t : Tuning) (v : Three) → AllKept (filterLimits t v) → stored (held (t .N) v) ≡ v
 filter-back t v (more o (more l (more d (more w (more p none))))) = past-order (t .N) v (o .most) (p .most)
 
 -- ---- a change
@@ -60,7 +60,7 @@ all-zero c e h =
     let d : 0 ≡ t .d = omega arith in
     same-change c e (same-tuning t N L d) (omega arith) (past-order 0 v (omega arith) (omega arith))
 
-change-back : (Na k : ℕ) (c : Change) → k ≡ c .kind → AllKept (coming Na k c) → changeOf (waitingOf k c) ≡ c
+change-back : (Na k : ℕ) (c : Change) → k ≡ c .kind → AllKept (changeLimits Na k c) → changeOf (waitingOf k c) ≡ c
 change-back Na zero c e (more z none) = all-zero c e (z .most)
 change-back Na (suc zero) c e (more n f) = same-change c e refl refl (filter-back (c .tuning) (c .state) f)
 change-back Na (suc (suc k)) c e (more z (more n f)) =
@@ -69,8 +69,8 @@ change-back Na (suc (suc k)) c e (more z (more n f)) =
 pub kept-back : (i : Numbers) → AllKept (limits i) → numbersOf (stateOf i) ≡ i
 unfolding limits
 kept-back i ks =
-    let f = filtering (i .tuning) (i .state) in
-    let u = plucking (i .pluck) in
+    let f = filterLimits (i .tuning) (i .state) in
+    let u = pluckLimits (i .pluck) in
     let p = parted (f ++ four i ++ u) ks in
     let q = parted (f ++ four i) (p .0) in
     let r = parted f (q .0) in

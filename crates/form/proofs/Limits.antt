@@ -27,7 +27,7 @@ use Rattle.rule.specs.Valid.{Tunable, Filled, Coming, Plucked, Whole}
 use Rattle.rule.proofs.Keeps.{none-some}
 use Rattle.rule.proofs.States.{take-within}
 use Rattle.form.specs.Numbers.{Change, Numbers, kindOf, changeOf, numbersOf, waits, waitingOf, stateOf}
-use Rattle.form.specs.Limits.{atMost, filtering, amount, coming, plucking, limits}
+use Rattle.form.specs.Limits.{atMost, filterLimits, amount, changeLimits, pluckLimits, limits}
 
 -- ---- lists of limits
 pub both : {ls ms : List Limit} → AllKept ls → AllKept ms → AllKept (ls ++ ms)
@@ -58,7 +58,7 @@ pub passes : {ls : List Limit} → AllKept ls → 0 ≡ refusal ls
 passes none = refl
 passes (more {l} {ls} k ks) = past l ls (kept-is l k) (passes ks)
 
-coming-above : (Na k : ℕ) (c : Change) → Above (coming Na k c)
+coming-above : (Na k : ℕ) (c : Change) → Above (changeLimits Na k c)
 coming-above Na zero c = omega arith
 coming-above Na (suc zero) c = omega arith
 coming-above Na (suc (suc k)) c = omega arith
@@ -90,7 +90,7 @@ turned-within (more {x} {v = xs} p h) =
 
 -- ---- a filter
 module _ (t : Tuning) (v : Three) where
-  pub filter-tunes : AllKept (filtering t v) → Tunable t × Filled (t .N) (held (t .N) v)
+  pub filter-tunes : AllKept (filterLimits t v) → Tunable t × Filled (t .N) (held (t .N) v)
   filter-tunes (more o (more l (more d (more w (more p none))))) = (
     record {
       takes = record { least = o .least; most = o .most; low = d .least; high = d .most };
@@ -112,7 +112,7 @@ fits h (more p (more r none)) = (omega arith, omega arith)
 fits h (more p (more r (more s none))) = (omega arith, omega arith)
 fits h (more p (more r (more s (more u w)))) = absurd (omega arith)
 
-pub filter-kept : (t : Tuning) (q : List ℤ) → Tunable t → Filled (t .N) q → AllKept (filtering t (stored q))
+pub filter-kept : (t : Tuning) (q : List ℤ) → Tunable t → Filled (t .N) q → AllKept (filterLimits t (stored q))
 filter-kept t q f g =
     let k = f .takes in
     let n : length q ≤ orders = omega (arith, k .most, g .many) in
@@ -126,14 +126,14 @@ filter-kept t q f g =
 
 -- ---- a change
 came : (Na : ℕ) (k : Kind) (c : Change) → c .taken ≤ Na → (k ≡ announced → c .taken < Na)
-    → AllKept (filtering (c .tuning) (c .state)) → (w : Waiting) → some (waits k c) ≡ some w → Coming Na w
+    → AllKept (filterLimits (c .tuning) (c .state)) → (w : Waiting) → some (waits k c) ≡ some w → Coming Na w
 came Na k c n e f w i =
     let p = filter-tunes (c .tuning) (c .state) f in
     let j : waits k c ≡ w = cc in
     let g : Coming Na (waits k c) = record { fit = p .0; counted = n; early = e; state = p .1 } in
     subst (λ (u : Waiting). Coming Na u) j g
 
-pub change-comes : (Na k : ℕ) (c : Change) → AllKept (coming Na k c)
+pub change-comes : (Na k : ℕ) (c : Change) → AllKept (changeLimits Na k c)
     → (w : Waiting) → waitingOf k c ≡ some w → Coming Na w
 change-comes Na zero c ks w e = absurd (none-some e)
 change-comes Na (suc zero) c (more n f) w e =
@@ -149,17 +149,17 @@ unfolding stored
 nothing-comes = omega arith
 
 pub coming-kept : (Na : ℕ) (o : Option Waiting) → ((w : Waiting) → o ≡ some w → Coming Na w)
-    → AllKept (coming Na (changeOf o .kind) (changeOf o))
+    → AllKept (changeLimits Na (changeOf o .kind) (changeOf o))
 coming-kept Na none f = more (less 23 0 (amount (changeOf none)) (omega (arith, nothing-comes))) none
 coming-kept Na (some w) f = by-kind (w .kind) refl
   where
     g : Coming Na w
     g = f w refl
 
-    kept : AllKept (filtering (w .tuning) (stored (w .state)))
+    kept : AllKept (filterLimits (w .tuning) (stored (w .state)))
     kept = filter-kept (w .tuning) (w .state) (g .fit) (g .state)
 
-    by-kind : (k : Kind) → w .kind ≡ k → AllKept (coming Na (kindOf k) (changeOf (some w)))
+    by-kind : (k : Kind) → w .kind ≡ k → AllKept (changeLimits Na (kindOf k) (changeOf (some w)))
     by-kind announced e = more (less 23 Na (suc (w .taken)) (g .early e)) kept
     by-kind asked e =
         more (less 23 0 0 (omega arith)) (more (less 23 Na (w .taken) (g .counted)) kept)
@@ -176,7 +176,7 @@ none-left p e h =
     let n : p .noise ≡ 0 = omega arith in
     all-zero a e n
 
-pub pluck-plucks : (p : Pluck) → AllKept (plucking p) → Plucked p
+pub pluck-plucks : (p : Pluck) → AllKept (pluckLimits p) → Plucked p
 pluck-plucks p (more a (more l (more n none))) =
     record { amplitude = a .most; left = l .most; over = λ e. none-left p e (n .most) }
 
@@ -189,7 +189,7 @@ left-none p h = go (eqb (p .left) 0) refl
         omega (arith, ap (λ (q : Pluck). q .amplitude + q .noise) s)
     go false e = omega arith
 
-pub pluck-kept : (p : Pluck) → Plucked p → AllKept (plucking p)
+pub pluck-kept : (p : Pluck) → Plucked p → AllKept (pluckLimits p)
 pluck-kept p h =
     more (less 7 255 (p .amplitude) (h .amplitude))
     (more (less 23 2048 (p .left) (h .left))
@@ -206,8 +206,8 @@ module _ (i : Numbers) where
   pub limits-whole : AllKept (limits i) → length (i .line) ≡ 2112 → Whole (stateOf i)
   unfolding limits
   limits-whole ks n =
-      let f = filtering (i .tuning) (i .state) in
-      let u = plucking (i .pluck) in
+      let f = filterLimits (i .tuning) (i .state) in
+      let u = pluckLimits (i .pluck) in
       let p = parted (f ++ four ++ u) ks in
       let q = parted (f ++ four) (p .0) in
       let r = parted f (q .0) in

@@ -23,7 +23,7 @@ use Rattle.rule.specs.State.{State, silence}
 use Rattle.rule.specs.Valid.{Tunable, Filled, Coming, Whole}
 use Rattle.rule.proofs.Line.{length-silence}
 use Rattle.form.specs.Numbers.{Change, Numbers, kindOf, changeOf, numbersOf, waits, waitingOf, stateOf}
-use Rattle.form.specs.Parts.{word, value, parts, three, numbersIn, usual}
+use Rattle.form.specs.Parts.{word, value, parts, three, numbersIn, refusedParts}
 use Rattle.form.proofs.Packing.{total, Words, none, more, Shaped, none, more, Worded, none, more}
 
 -- ---- a voice and its numbers
@@ -102,7 +102,7 @@ pub record Small (i : Numbers) : Type 0 where
       ∷ i .change .tuning .d
       ∷ i .change .taken
       ∷ map word (entries (i .change .state)))
-  pub coming : Within (2 * M) (entries (i .change .state))
+  pub change-state : Within (2 * M) (entries (i .change .state))
   pub pluck : Words (i .pluck .amplitude ∷ i .pluck .left ∷ i .pluck .noise ∷ [])
   pub line : Within (2 * M) (i .line)
 
@@ -117,15 +117,15 @@ numbers-back i s =
     rw (
       value-back (i .last) (s .last),
       entries-back (i .state) (s .state),
-      entries-back (i .change .state) (s .coming),
+      entries-back (i .change .state) (s .change-state),
       values-back (s .line),
     )
 
-pub usual-line : length (map word (reverse silence)) ≡ 2112
-usual-line = length-map (reverse silence) word ∙ length-reverse silence ∙ length-silence
+pub refused-line : length (map word (reverse silence)) ≡ 2112
+refused-line = length-map (reverse silence) word ∙ length-reverse silence ∙ length-silence
 
-pub parts-shaped : (i : Numbers) → Small i → length (i .line) ≡ 2112 → Shaped (parts i) usual
-unfolding parts usual
+pub parts-shaped : (i : Numbers) → Small i → length (i .line) ≡ 2112 → Shaped (parts i) refusedParts
+unfolding parts refusedParts
 parts-shaped i s n =
     more refl (s .tuning)
     (more refl (more (s .G) none)
@@ -134,8 +134,8 @@ parts-shaped i s n =
     (more refl (words-under (s .state))
     (more refl (s .change)
     (more refl (s .pluck)
-    (more (length-map (i .line) word ∙ n ∙ sym usual-line) (words-under (s .line)) none)))))))
+    (more (length-map (i .line) word ∙ n ∙ sym refused-line) (words-under (s .line)) none)))))))
 
-pub usual-total : total usual ≡ 8528
-unfolding usual parts
-usual-total = omega (arith, usual-line)
+pub refused-total : total refusedParts ≡ 8528
+unfolding refusedParts parts
+refused-total = omega (arith, refused-line)

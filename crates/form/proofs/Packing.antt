@@ -65,18 +65,20 @@ encoded-back (suc k) s b l =
     rw (i, r, e, take-add 4 (4 * k) s)
 
 -- ---- the bit map
-low-bit : (b : Bool) (m : ℕ) → eqb ((cond b 1 0 + 2 * m) % 2) 1 ≡ b
-low-bit true m = eq-eqb ((1 + 2 * m) % 2) 1 (omega arith)
-low-bit false m = ne-eqb ((0 + 2 * m) % 2) 1 (omega arith)
+low-bit : (b : Bool) (bs : List Bool) → eqb (mapByte (b ∷ bs) % 2) 1 ≡ b
+unfolding mapByte
+low-bit true bs = eq-eqb (mapByte (true ∷ bs) % 2) 1 (omega arith)
+low-bit false bs = ne-eqb (mapByte (false ∷ bs) % 2) 1 (omega arith)
 
-high-bits : (b : Bool) (m : ℕ) → (cond b 1 0 + 2 * m) / 2 ≡ m
-high-bits true m = omega arith
-high-bits false m = omega arith
+high-bits : (b : Bool) (bs : List Bool) → mapByte (b ∷ bs) / 2 ≡ mapByte bs
+unfolding mapByte
+high-bits true bs = omega arith
+high-bits false bs = omega arith
 
 pub flags-back : (bs : List Bool) → flags (length bs) (mapByte bs) ≡ bs
-unfolding flags mapByte
+unfolding flags
 flags-back [] = refl
-flags-back (b ∷ bs) = rw (low-bit b (mapByte bs), high-bits b (mapByte bs), flags-back bs)
+flags-back (b ∷ bs) = rw (low-bit b bs, high-bits b bs, flags-back bs)
 
 pub bit-value : (m : ℕ) → cond (eqb (m % 2) 1) 1 0 ≡ m % 2
 bit-value m = go (eqb (m % 2) 1) refl
@@ -130,7 +132,8 @@ unfolding packed unpacked
 unpacked-back none h = refl
 unpacked-back (here {p} {u} {bs} {ps} a) (more l w h) =
     let d : length (encoded p) ≡ 4 * length u = omega (arith, encoded-length p) in
-    rw (drop-at (encoded p) (packed bs ps) (4 * length u) d, ← l, decoded-back (packed bs ps) w, unpacked-back a h)
+    let taken-up : decoded (length u) (encoded p ++ packed bs ps) ≡ p = rw (← l) (decoded-back (packed bs ps) w) in
+    ap₂ _∷_ taken-up (rw (drop-at (encoded p) (packed bs ps) (4 * length u) d) (unpacked-back a h))
 unpacked-back (gone {u} a) (more l w h) = rw (unpacked-back a h)
 
 -- ---- what storing leaves out

@@ -16,11 +16,11 @@ use Rattle.allpass.specs.Stored.{stored}
 use Rattle.allpass.proofs.Bounds.{rest-within}
 use Rattle.rule.specs.State.{silence}
 use Rattle.form.specs.Numbers.{Numbers}
-use Rattle.form.specs.Parts.{word, value, parts, numbersIn, usual, flags, size, decoded, unpacked, mapOf, heldIn}
+use Rattle.form.specs.Parts.{word, value, parts, numbersIn, refusedParts, flags, size, decoded, unpacked, mapOf, heldIn}
 use Rattle.form.specs.Refusals.{sizes, ahead, formSize, found, foundZ, Reads}
 use Rattle.form.proofs.Packing.{bit-value, flags-length, decoded-length}
 use Rattle.form.proofs.Limits.{turned-within}
-use Rattle.form.proofs.Numbers.{usual-line}
+use Rattle.form.proofs.Numbers.{refused-line}
 
 -- ---- the bytes ahead of a part
 abbrev lengths : List (List ℕ) → List ℕ
@@ -52,22 +52,22 @@ size-ahead (u ∷ us) (suc k) m (suc j) h =
     ∙ rw (bit-value m, size-ahead us k (m / 2) j (omega arith))
 
 last-size : 4 * length (map word (reverse silence)) ≡ 8448
-last-size = omega (arith, usual-line)
+last-size = omega (arith, refused-line)
 
-usual-sizes : lengths usual ≡ sizes
-unfolding usual parts
-usual-sizes =
+refused-sizes : lengths refusedParts ≡ sizes
+unfolding refusedParts parts
+refused-sizes =
     ap (λ (n : ℕ). 12 ∷ 4 ∷ 4 ∷ 4 ∷ 12 ∷ 32 ∷ 12 ∷ n ∷ []) last-size
 
-pub map-size : (s : List ℕ) (j : ℕ) → j ≤ 8 → size (take j (mapOf s)) usual ≡ ahead sizes (getD s 0 0) j
+pub map-size : (s : List ℕ) (j : ℕ) → j ≤ 8 → size (take j (mapOf s)) refusedParts ≡ ahead sizes (getD s 0 0) j
 map-size s j h =
-    size-ahead usual 8 (getD s 0 0) j h ∙ ap (λ (ns : List ℕ). ahead ns (getD s 0 0) j) usual-sizes
+    size-ahead refusedParts 8 (getD s 0 0) j h ∙ ap (λ (ns : List ℕ). ahead ns (getD s 0 0) j) refused-sizes
 
-pub form-size : (s : List ℕ) → suc (size (mapOf s) usual) ≡ formSize (getD s 0 0)
+pub form-size : (s : List ℕ) → suc (size (mapOf s) refusedParts) ≡ formSize (getD s 0 0)
 form-size s =
     let e = map-size s 8 (omega arith) in
     let t : take 8 (mapOf s) ≡ mapOf s = take-all 8 (mapOf s) (omega (arith, flags-length 8 (getD s 0 0))) in
-    omega (arith, e, ap (λ (bs : List Bool). size bs usual) t)
+    omega (arith, e, ap (λ (bs : List Bool). size bs refusedParts) t)
 
 -- ---- a bit
 bit-at : (k m j : ℕ) → j < k → getD (flags k m) j false ≡ eqb (m / 2 ^ j % 2) 1
@@ -109,20 +109,20 @@ there (true ∷ bs) (u ∷ us) s (suc j) k l h =
     (drop-drop (size (take j bs) us + 4 * k) n s ∙ ap (λ (i : ℕ). drop i s) e)
 there (false ∷ bs) (u ∷ us) s (suc j) k l h = there bs us s j k (omega arith) h
 
-usual-eight : length usual ≡ 8
-unfolding usual parts
-usual-eight = refl
+refused-eight : length refusedParts ≡ 8
+unfolding refusedParts parts
+refused-eight = refl
 
-pub found-at : (s : List ℕ) (j k : ℕ) → j < 8 → k < length (getD usual j [])
-    → getD (getD (unpacked (mapOf s) usual (drop 1 s)) j []) k 0 ≡ found s j k (getD (getD usual j []) k 0)
+pub found-at : (s : List ℕ) (j k : ℕ) → j < 8 → k < length (getD refusedParts j [])
+    → getD (getD (unpacked (mapOf s) refusedParts (drop 1 s)) j []) k 0 ≡ found s j k (getD (getD refusedParts j []) k 0)
 found-at s j k h l =
     let m = getD s 0 0 in
-    let n = size (take j (mapOf s)) usual in
+    let n = size (take j (mapOf s)) refusedParts in
     let e : 1 + (n + 4 * k) ≡ 1 + ahead sizes m j + 4 * k = omega (arith, map-size s j (omega arith)) in
-    there (mapOf s) usual (drop 1 s) j k (flags-length 8 m ∙ sym usual-eight) l
-    ∙ ap (λ (i : List ℕ). cond (getD (mapOf s) j false) (number (take 4 i)) (getD (getD usual j []) k 0))
+    there (mapOf s) refusedParts (drop 1 s) j k (flags-length 8 m ∙ sym refused-eight) l
+    ∙ ap (λ (i : List ℕ). cond (getD (mapOf s) j false) (number (take 4 i)) (getD (getD refusedParts j []) k 0))
     (drop-drop (n + 4 * k) 1 s ∙ ap (λ (i : ℕ). drop i s) e)
-    ∙ ap (λ (b : Bool). cond b (number (take 4 (drop (1 + ahead sizes m j + 4 * k) s))) (getD (getD usual j []) k 0))
+    ∙ ap (λ (b : Bool). cond b (number (take 4 (drop (1 + ahead sizes m j + 4 * k) s))) (getD (getD refusedParts j []) k 0))
     (bit-at 8 m j h)
 
 -- ---- all of them
@@ -152,24 +152,24 @@ as-long (false ∷ bs) (u ∷ us) s (suc j) l = as-long bs us s j (omega arith)
 
 module _ (s : List ℕ) where
   abbrev held : List (List ℕ)
-  held = unpacked (mapOf s) usual (drop 1 s)
+  held = unpacked (mapOf s) refusedParts (drop 1 s)
 
   many : length (map value (getD held 7 [])) ≡ 2112
-  unfolding usual parts
+  unfolding refusedParts parts
   many =
       length-map (getD held 7 []) value
-      ∙ as-long (mapOf s) usual (drop 1 s) 7 (flags-length 8 (getD s 0 0) ∙ sym usual-eight)
-      ∙ usual-line
+      ∙ as-long (mapOf s) refusedParts (drop 1 s) 7 (flags-length 8 (getD s 0 0) ∙ sym refused-eight)
+      ∙ refused-line
 
   sample : (k : ℕ) → k < 2112 → getD (map value (getD held 7 [])) k (pos 0) ≡ foundZ s 7 k
-  unfolding usual parts
+  unfolding refusedParts parts
   sample k h =
       List·getD-map value (getD held 7 []) k 0
-      ∙ ap value (found-at s 7 k (omega arith) (omega (arith, usual-line)))
+      ∙ ap value (found-at s 7 k (omega arith) (omega (arith, refused-line)))
       ∙ ap (λ (n : ℕ). value (found s 7 k n)) (silent-at k)
 
   pub reads : Reads s (heldIn s)
-  unfolding heldIn numbersIn usual parts stored
+  unfolding heldIn numbersIn refusedParts parts stored
   reads = record {
     N = found-at s 0 0 (omega arith) (omega arith);
     L = found-at s 0 1 (omega arith) (omega arith);

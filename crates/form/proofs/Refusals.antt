@@ -25,9 +25,9 @@ use Rattle.allpass.specs.declared.State.{State as Three}
 use Rattle.rule.specs.Voice.{Tuning, Pluck}
 use Rattle.rule.specs.State.{State, back}
 use Rattle.form.specs.Numbers.{Change, Numbers, stateOf, refused}
-use Rattle.form.specs.Limits.{atMost, filtering, amount, coming, plucking, limits}
+use Rattle.form.specs.Limits.{atMost, filterLimits, amount, changeLimits, pluckLimits, limits}
 use Rattle.form.specs.Parts.{stored, heldIn}
-use Rattle.form.specs.Loads.{whole, good, loadNumber, loads, roomy, storeNumber, storeLength, left}
+use Rattle.form.specs.Loads.{lengthLimit, partLimit, loadNumber, loads, roomLimit, storeNumber, storeLength, left}
 use Rattle.form.specs.Refusals.{formSize, FilterIn, AllZero, ChangeIn, none, announced, asked, InLimits}
 use Rattle.form.specs.Refusals.{LoadReturns, StoreReturns, Refuses}
 use Rattle.form.proofs.Limits.{both, parted, less, passed, passes, limits-above, quiet, unquiet, four, four-parts, none-left}
@@ -64,7 +64,7 @@ none-past (suc (suc (suc zero))) v l m f g = omega arith
 none-past (suc (suc (suc (suc N)))) v l m f g = absurd (omega arith)
 
 module _ (t : Tuning) (v : Three) where
-  filter-in : AllKept (filtering t v) → FilterIn t v
+  filter-in : AllKept (filterLimits t v) → FilterIn t v
   filter-in (more o (more l (more d (more w (more p none))))) = record {
     tuned =
         in-range (t .N) (t .d) (record { least = o .least; most = o .most })
@@ -77,7 +77,7 @@ module _ (t : Tuning) (v : Three) where
     third = past-three (t .N) v (o .least) (p .most);
   }
 
-  in-filter : FilterIn t v → AllKept (filtering t v)
+  in-filter : FilterIn t v → AllKept (filterLimits t v)
   in-filter f =
       let o = ordered (f .tuned) in
       let d = delayed (f .tuned) in
@@ -115,13 +115,13 @@ zeros c e h =
 nothing-there : (c : Change) → AllZero c → amount c ≤ 0
 nothing-there c z = rw (z .tuned, z .taken, z .state) (omega arith)
 
-change-in : (Na k : ℕ) (c : Change) → c .kind ≡ k → AllKept (coming Na k c) → ChangeIn Na c
+change-in : (Na k : ℕ) (c : Change) → c .kind ≡ k → AllKept (changeLimits Na k c) → ChangeIn Na c
 change-in Na zero c e (more z none) = none (zeros c e (z .most))
 change-in Na (suc zero) c e (more n f) = announced e (n .most) (filter-in (c .tuning) (c .state) f)
 change-in Na (suc (suc k)) c e (more z (more n f)) =
     asked (omega (arith, z .most)) (n .most) (filter-in (c .tuning) (c .state) f)
 
-in-change : (Na : ℕ) (c : Change) → ChangeIn Na c → AllKept (coming Na (c .kind) c)
+in-change : (Na : ℕ) (c : Change) → ChangeIn Na c → AllKept (changeLimits Na (c .kind) c)
 in-change Na c (none z) = rw (z .kind) (more (less 23 0 (amount c) (nothing-there c z)) none)
 in-change Na c (announced e n f) =
     rw e (more (less 23 Na (suc (c .taken)) n) (in-filter (c .tuning) (c .state) f))
@@ -130,7 +130,7 @@ in-change Na c (asked e n f) =
     (more (less 23 0 0 (omega arith)) (more (less 23 Na (c .taken) n) (in-filter (c .tuning) (c .state) f)))
 
 -- ---- a pluck
-pluck-in : (p : Pluck) → AllKept (plucking p)
+pluck-in : (p : Pluck) → AllKept (pluckLimits p)
     → (p .amplitude ≤ 255) × ((p .left ≤ 2048) × (p .left ≡ 0 → (p .amplitude ≡ 0) × (p .noise ≡ 0)))
 pluck-in p (more a (more l (more n none))) = (
   a .most,
@@ -155,8 +155,8 @@ module _ (i : Numbers) where
   kept-in : AllKept (limits i) → InLimits i
   unfolding limits
   kept-in ks =
-      let f = filtering (i .tuning) (i .state) in
-      let u = plucking (i .pluck) in
+      let f = filterLimits (i .tuning) (i .state) in
+      let u = pluckLimits (i .pluck) in
       let p = parted (f ++ four i ++ u) ks in
       let q = parted (f ++ four i) (p .0) in
       let r = parted f (q .0) in
@@ -200,7 +200,7 @@ module _ (s : List ℕ) where
   Whole-length = length s ≡ formSize (getD s 0 0)
 
   abbrev Between-length : Type 0
-  Between-length = Between (whole s .low) (length s) (whole s .high)
+  Between-length = Between (lengthLimit s .low) (length s) (lengthLimit s .high)
 
   long-is : Between-length → Whole-length
   long-is b = omega (arith, b .least, b .most, form-size s)
@@ -211,8 +211,8 @@ module _ (s : List ℕ) where
   loading : LoadReturns s (heldIn s) (loadNumber s)
   unfolding loadNumber
   loading =
-      let w = whole s in
-      let g = good (heldIn s) in
+      let w = lengthLimit s in
+      let g = partLimit (heldIn s) in
       let first = Tests.refused [] w (g ∷ []) tt in
       let second = Tests.refused (w ∷ []) g [] tt in
       let all = Tests.accepted w (g ∷ []) tt in
@@ -242,7 +242,7 @@ module _ (v : State) (old : List ℕ) where
   storing : StoreReturns v old (storeNumber v (length old))
   unfolding storeNumber
   storing =
-      let r = roomy v (length old) in
+      let r = roomLimit v (length old) in
       let one = Tests.refused [] r [] tt in
       let all = Tests.accepted r [] tt in
       record {

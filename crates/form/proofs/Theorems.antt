@@ -22,15 +22,15 @@ use Rattle.rule.specs.Valid.{Whole}
 use Rattle.rule.proofs.States.{fresh-whole}
 use Rattle.form.specs.Numbers.{Numbers, numbersOf, stateOf, refused}
 use Rattle.form.specs.Limits.{limits}
-use Rattle.form.specs.Parts.{parts, numbersIn, usual, mapByte, flags, packed, size, unpacked, chosen}
+use Rattle.form.specs.Parts.{parts, numbersIn, refusedParts, mapByte, flags, packed, size, unpacked, chosen}
 use Rattle.form.specs.Parts.{form, stored, mapOf, heldIn, value}
-use Rattle.form.specs.Loads.{whole, good, loadNumber, Loaded, loads, Panel, shown, panel}
+use Rattle.form.specs.Loads.{lengthLimit, partLimit, loadNumber, Loaded, loads, Panel, shown, panel}
 use Rattle.form.specs.Theorems.{Storable, OneList, RoundTrip, Shows}
 use Rattle.form.proofs.Packing.{Shaped, Absent, flags-back, packed-length, unpacked-back, chosen-absent}
 use Rattle.form.proofs.Packing.{absent-from, absent-length, flags-length, form-bytes, chosen-self, packed-self, unpacked-shaped, shaped-worded}
 use Rattle.form.proofs.Packing.{shaped-length, shaped-at, size-most}
 use Rattle.form.proofs.Limits.{whole-limits, limits-whole, limits-above, passed, passes}
-use Rattle.form.proofs.Numbers.{state-back, numbers-back, parts-shaped, usual-line, usual-total}
+use Rattle.form.proofs.Numbers.{state-back, numbers-back, parts-shaped, refused-line, refused-total}
 use Rattle.form.proofs.Small.{small}
 use Rattle.form.proofs.Back.{kept-back}
 
@@ -50,33 +50,33 @@ refused-storable = record { whole = refused-whole; noise = omega arith }
 
 -- ---- the eight parts of a voice
 module _ (i : Numbers) (k : AllKept (limits i)) (z : i .pluck .noise < 2 ^ 32) (n : length (i .line) ≡ 2112) where
-  pub shaped : Shaped (parts i) usual
+  pub shaped : Shaped (parts i) refusedParts
   shaped = parts-shaped i (small i k z) n
 
   -- with any bit map that leaves out nothing that counts
-  module _ (bs : List Bool) (a : Absent bs (parts i) usual) (e : length bs ≡ 8) where
+  module _ (bs : List Bool) (a : Absent bs (parts i) refusedParts) (e : length bs ≡ 8) where
     map-held : mapOf (form bs i) ≡ bs
     map-held = ap (λ (m : ℕ). flags m (mapByte bs)) (sym e) ∙ flags-back bs
 
     pub held-back : heldIn (form bs i) ≡ i
     unfolding heldIn
     held-back =
-        ap (λ (cs : List Bool). numbersIn (unpacked cs usual (packed bs (parts i)))) map-held
+        ap (λ (cs : List Bool). numbersIn (unpacked cs refusedParts (packed bs (parts i)))) map-held
         ∙ ap numbersIn (unpacked-back a shaped)
         ∙ numbers-back i (small i k z)
 
-    pub form-long : length (form bs i) ≡ suc (size (mapOf (form bs i)) usual)
+    pub form-long : length (form bs i) ≡ suc (size (mapOf (form bs i)) refusedParts)
     form-long =
         ap suc (packed-length bs shaped)
-        ∙ ap (λ (cs : List Bool). suc (size cs usual)) (sym map-held)
+        ∙ ap (λ (cs : List Bool). suc (size cs refusedParts)) (sym map-held)
 
     pub form-passes : loadNumber (form bs i) ≡ 0
     unfolding loadNumber
     form-passes =
         let s = form bs i in
         let g : refusal (limits (heldIn s)) ≡ 0 = ap (λ (j : Numbers). refusal (limits j)) held-back ∙ sym (passes k) in
-        let h : Kept (whole s) = record { least = omega (arith, form-long); most = omega (arith, form-long) } in
-        let w : Kept (good (heldIn s)) = record { least = omega arith; most = omega arith } in
+        let h : Kept (lengthLimit s) = record { least = omega (arith, form-long); most = omega (arith, form-long) } in
+        let w : Kept (partLimit (heldIn s)) = record { least = omega arith; most = omega arith } in
         sym (passes (more h (more w none)))
 
     pub form-loads : loads (form bs i) ≡ record { refusal = 0; state = stateOf i }
@@ -84,9 +84,9 @@ module _ (i : Numbers) (k : AllKept (limits i)) (z : i .pluck .noise < 2 ^ 32) (
     form-loads = rw (form-passes, held-back)
 
 -- ---- a voice that can be stored
-usual-eight : length usual ≡ 8
-unfolding usual parts
-usual-eight = refl
+refused-eight : length refusedParts ≡ 8
+unfolding refusedParts parts
+refused-eight = refl
 
 module _ (v : State) (h : Storable v) where
   kept : AllKept (limits (numbersOf v))
@@ -96,16 +96,16 @@ module _ (v : State) (h : Storable v) where
   long = length-reverse (v .line) ∙ h .whole .many
 
   abbrev bits : List Bool
-  bits = chosen (parts (numbersOf v)) usual
+  bits = chosen (parts (numbersOf v)) refusedParts
 
-  pub of-voice : Shaped (parts (numbersOf v)) usual
+  pub of-voice : Shaped (parts (numbersOf v)) refusedParts
   of-voice = shaped (numbersOf v) kept (h .noise) long
 
-  left-out : Absent bits (parts (numbersOf v)) usual
+  left-out : Absent bits (parts (numbersOf v)) refusedParts
   left-out = chosen-absent of-voice
 
   pub eight : length bits ≡ 8
-  eight = absent-length left-out ∙ usual-eight
+  eight = absent-length left-out ∙ refused-eight
 
   pub back : loads (stored v) ≡ record { refusal = 0; state = v }
   unfolding stored
@@ -114,10 +114,10 @@ module _ (v : State) (h : Storable v) where
       ∙ ap (λ (u : State). record { refusal = 0; state = u }) (state-back v (h .whole))
 
   needless : (bs : List Bool) → length bs ≡ 8
-      → ((j : ℕ) → getD bs j true ≡ false → getD (parts (numbersOf v)) j [] ≡ getD usual j [])
+      → ((j : ℕ) → getD bs j true ≡ false → getD (parts (numbersOf v)) j [] ≡ getD refusedParts j [])
       → loads (form bs (numbersOf v)) ≡ record { refusal = 0; state = v }
   needless bs e f =
-      form-loads (numbersOf v) kept (h .noise) long bs (absent-from bs of-voice (e ∙ sym usual-eight) f) e
+      form-loads (numbersOf v) kept (h .noise) long bs (absent-from bs of-voice (e ∙ sym refused-eight) f) e
       ∙ ap (λ (u : State). record { refusal = 0; state = u }) (state-back v (h .whole))
 
   stored-bytes : Bytes (stored v)
@@ -126,26 +126,26 @@ module _ (v : State) (h : Storable v) where
 
   stored-long : length (stored v) ≤ 8529
   unfolding stored
-  stored-long = omega (arith, packed-length bits of-voice, size-most bits usual, usual-total)
+  stored-long = omega (arith, packed-length bits of-voice, size-most bits refusedParts, refused-total)
 
 pub shortest : stored refused ≡ 0 ∷ []
-unfolding stored usual
-shortest = rw (chosen-self usual, packed-self usual)
+unfolding stored refusedParts
+shortest = rw (chosen-self refusedParts, packed-self refusedParts)
 
 -- ---- what bytes hold
-usual-shaped : Shaped usual usual
-unfolding usual
-usual-shaped = of-voice refused refused-storable
+refused-shaped : Shaped refusedParts refusedParts
+unfolding refusedParts
+refused-shaped = of-voice refused refused-storable
 
-last-part : length (getD usual 7 []) ≡ 2112
-unfolding usual parts
-last-part = usual-line
+last-part : length (getD refusedParts 7 []) ≡ 2112
+unfolding refusedParts parts
+last-part = refused-line
 
 module _ (s : List ℕ) (b : Bytes s) where
-  pub held-shaped : Shaped (unpacked (mapOf s) usual (drop 1 s)) usual
+  pub held-shaped : Shaped (unpacked (mapOf s) refusedParts (drop 1 s)) refusedParts
   held-shaped =
-      unpacked-shaped (mapOf s) (drop 1 s) (flags-length 8 (getD s 0 0) ∙ sym usual-eight)
-      (shaped-worded usual-shaped) (dropped-bytes 1 s b)
+      unpacked-shaped (mapOf s) (drop 1 s) (flags-length 8 (getD s 0 0) ∙ sym refused-eight)
+      (shaped-worded refused-shaped) (dropped-bytes 1 s b)
 
   held-noise : heldIn s .pluck .noise < 2 ^ 32
   unfolding heldIn numbersIn
@@ -154,15 +154,15 @@ module _ (s : List ℕ) (b : Bytes s) where
   held-long : length (heldIn s .line) ≡ 2112
   unfolding heldIn numbersIn
   held-long =
-      length-map (getD (unpacked (mapOf s) usual (drop 1 s)) 7 []) value
+      length-map (getD (unpacked (mapOf s) refusedParts (drop 1 s)) 7 []) value
       ∙ shaped-length held-shaped 7
       ∙ last-part
 
   passed-all : loadNumber s ≡ 0 → AllKept (limits (heldIn s))
   unfolding loadNumber
-  passed-all e = go (returned (whole s ∷ good (heldIn s) ∷ []) tt .accepted .0 e)
+  passed-all e = go (returned (lengthLimit s ∷ partLimit (heldIn s) ∷ []) tt .accepted .0 e)
     where
-      go : AllKept (whole s ∷ good (heldIn s) ∷ []) → AllKept (limits (heldIn s))
+      go : AllKept (lengthLimit s ∷ partLimit (heldIn s) ∷ []) → AllKept (limits (heldIn s))
       go (more w (more g none)) =
           passed (limits (heldIn s)) (limits-above (heldIn s)) (omega (arith, g .most))
 

@@ -21,8 +21,8 @@ abbrev pub atMost : ℕ → ℕ → Limit
 atMost high n = record { number = 23; low = 0; value = n; high = high }
 
 -- a tuning, and "Each number of either state lies within −2M to 2M", "zero past the order"
-abbrev pub filtering : Tuning → Three → List Limit
-filtering t v =
+abbrev pub filterLimits : Tuning → Three → List Limit
+filterLimits t v =
     order (t .N)
     ∷ long (t .L)
     ∷ delay (t .N) (t .d)
@@ -35,14 +35,14 @@ abbrev pub amount : Change → ℕ
 amount c = c .tuning .N + c .tuning .L + c .tuning .d + c .taken + loudest (entries (c .state))
 
 -- by kind: "No change .. is all zeros"; "samples taken (counted to Na, below it in kind 1)"
-abbrev pub coming : ℕ → ℕ → Change → List Limit
-coming Na zero c = atMost 0 (amount c) ∷ []
-coming Na (suc zero) c = atMost Na (suc (c .taken)) ∷ filtering (c .tuning) (c .state)
-coming Na (suc (suc k)) c = atMost 0 k ∷ atMost Na (c .taken) ∷ filtering (c .tuning) (c .state)
+abbrev pub changeLimits : ℕ → ℕ → Change → List Limit
+changeLimits Na zero c = atMost 0 (amount c) ∷ []
+changeLimits Na (suc zero) c = atMost Na (suc (c .taken)) ∷ filterLimits (c .tuning) (c .state)
+changeLimits Na (suc (suc k)) c = atMost 0 k ∷ atMost Na (c .taken) ∷ filterLimits (c .tuning) (c .state)
 
 -- "no steps left, is all zeros"
-abbrev pub plucking : Pluck → List Limit
-plucking p =
+abbrev pub pluckLimits : Pluck → List Limit
+pluckLimits p =
     strong (p .amplitude)
     ∷ atMost 2048 (p .left)
     ∷ atMost 0 (cond (eqb (p .left) 0) (p .amplitude + p .noise) 0)
@@ -50,7 +50,7 @@ plucking p =
 
 unfoldable pub limits : Numbers → List Limit
 limits i =
-    filtering (i .tuning) (i .state)
+    filterLimits (i .tuning) (i .state)
     ++ (lossy (i .G) ∷ early (i .Na) ∷ atMost M (natAbs (i .last)) ∷ loud (i .line) ∷ [])
-    ++ plucking (i .pluck)
-    ++ coming (i .Na) (i .change .kind) (i .change)
+    ++ pluckLimits (i .pluck)
+    ++ changeLimits (i .Na) (i .change .kind) (i .change)

@@ -10,22 +10,22 @@ use Rattle.samples.specs.Samples.{over}
 use Rattle.rule.specs.State.{State}
 use Rattle.form.specs.Numbers.{Numbers, stateOf, refused}
 use Rattle.form.specs.Limits.{limits}
-use Rattle.form.specs.Parts.{usual, size, stored, mapOf, heldIn}
+use Rattle.form.specs.Parts.{refusedParts, size, stored, mapOf, heldIn}
 
 -- ---- loading
 -- "22 bytes missing or left over": a bit map byte and the parts whose bit stands
-abbrev pub whole : List ℕ → Limit
-whole s =
-    let n = suc (size (mapOf s) usual) in
+abbrev pub lengthLimit : List ℕ → Limit
+lengthLimit s =
+    let n = suc (size (mapOf s) refusedParts) in
     record { number = 22; low = n; value = length s; high = n }
 
 -- "23 a part outside its limits or not in this form"
-abbrev pub good : Numbers → Limit
-good i = record { number = 23; low = 0; value = refusal (limits i); high = 0 }
+abbrev pub partLimit : Numbers → Limit
+partLimit i = record { number = 23; low = 0; value = refusal (limits i); high = 0 }
 
 -- "22 first"
 unfoldable pub loadNumber : List ℕ → ℕ
-loadNumber s = refusal (whole s ∷ good (heldIn s) ∷ [])
+loadNumber s = refusal (lengthLimit s ∷ partLimit (heldIn s) ∷ [])
 
 pub record Loaded : Type 0 where
   pub refusal : ℕ
@@ -55,11 +55,11 @@ panel s =
 
 -- ---- storing into a slice that is old
 -- "a lent slice too short is 18": how many bytes it is short
-abbrev pub roomy : State → ℕ → Limit
-roomy v room = record { number = 18; low = 0; value = length (stored v) - room; high = 0 }
+abbrev pub roomLimit : State → ℕ → Limit
+roomLimit v room = record { number = 18; low = 0; value = length (stored v) - room; high = 0 }
 
 unfoldable pub storeNumber : State → ℕ → ℕ
-storeNumber v room = refusal (roomy v room ∷ [])
+storeNumber v room = refusal (roomLimit v room ∷ [])
 
 -- "Storing returns the length and touches nothing past it"; "untouched, with length 0"
 unfoldable pub storeLength : State → ℕ → ℕ

@@ -72,8 +72,8 @@ numbersIn ps = record {
 }
 
 -- those of Open's refusal voice
-unfoldable pub usual : List (List ℕ)
-usual = parts (numbersOf refused)
+unfoldable pub refusedParts : List (List ℕ)
+refusedParts = parts (numbersOf refused)
 
 -- ---- the bit map: "Bits follow that order, lowest first"
 unfoldable pub mapByte : List Bool → ℕ
@@ -121,10 +121,10 @@ abbrev pub form : List Bool → Numbers → List ℕ
 form bs i = mapByte bs ∷ packed bs (parts i)
 
 unfoldable pub stored : State → List ℕ
-stored v = form (chosen (parts (numbersOf v)) usual) (numbersOf v)
+stored v = form (chosen (parts (numbersOf v)) refusedParts) (numbersOf v)
 
 abbrev pub mapOf : List ℕ → List Bool
 mapOf s = flags 8 (getD s 0 0)
 
 unfoldable pub heldIn : List ℕ → Numbers
-heldIn s = numbersIn (unpacked (mapOf s) usual (drop 1 s))
+heldIn s = numbersIn (unpacked (mapOf s) refusedParts (drop 1 s))

@@ -15,7 +15,7 @@ use Rattle.refusal.specs.Limits.{refusal}
 use Rattle.refusal.specs.Returned.{AllKept}
 use Rattle.form.specs.Numbers.{Numbers, numbersOf, stateOf, refused}
 use Rattle.form.specs.Limits.{limits}
-use Rattle.form.specs.Parts.{parts, usual, form, stored}
+use Rattle.form.specs.Parts.{parts, refusedParts, form, stored}
 use Rattle.form.specs.Loads.{Loaded, loads, Panel, shown, panel}
 
 -- a voice within document 01's limits, whose noise state is a number of 32 bits
@@ -47,7 +47,7 @@ pub record RoundTrip : Type 0 where
   pub shortest : stored refused ≡ 0 ∷ []
   -- "one present all the same is taken up": any bit map that leaves out no part that differs
   pub needless : (v : State) → Storable v → (bs : List Bool) → length bs ≡ 8
-      → ((j : ℕ) → getD bs j true ≡ false → getD (parts (numbersOf v)) j [] ≡ getD usual j [])
+      → ((j : ℕ) → getD bs j true ≡ false → getD (parts (numbersOf v)) j [] ≡ getD refusedParts j [])
       → loads (form bs (numbersOf v)) ≡ record { refusal = 0; state = v }
 
 -- ---- "the wall panel is given length, delay and loss only"

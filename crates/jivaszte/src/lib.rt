@@ -18,6 +18,7 @@ ghost use Rattle.wav.specs.Recorded.{recorded, filled};
 
 mod calls;
 mod junctions;
+mod stored;
 
 // A1, A2 and A3 of an order and a delay.
 #[no_mangle]

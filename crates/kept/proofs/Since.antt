@@ -15,7 +15,7 @@ use Rattle.list.specs.Chain as Chain
 use Rattle.list.specs.Chain.{Chain, heard, Chained}
 use Rattle.list.proofs.Chain.{chained}
 use Rattle.kept.specs.Lent.{answerOf, openedOf}
-use Rattle.kept.specs.Since.{Since, opened, called, changed, rendered, Lists}
+use Rattle.kept.specs.Since.{Since, opened, called, changed, rendered, resumed, Lists}
 
 -- one chain after another
 then : {h g f : Head} {l k m : List ℤ} {cs ds : List Call} {ns os ks js : List ℕ} {ys zs : List ℤ}
@@ -58,6 +58,15 @@ through (changed {ys = ys} {us = us} {n = n} {j = j} s e i) =
 through (rendered {ys = ys} {n = n} s xs before {out = out} e i) =
     on (through s) (Chain.rendered xs before e i Chain.none)
     (ap (λ (q : List ℤ). ys ++ q) (append-nil (heard n out)))
+through (resumed {cs = cs} {ns = ns} {ks = ks} {ys = ys} s e v) =
+    let t = through s in
+    record {
+      first = t .first;
+      opens = t .opens;
+      chain =
+          rw (append-nil cs, append-nil ns, append-nil ks, append-nil ys) at
+          (then (t .chain) (Chain.resumed e v Chain.none));
+    }
 
 list-of : {o : Opening} {cs : List Call} {ns ks : List ℕ} {ys : List ℤ} {ws : List ℕ} {l : List ℤ}
     → Since o cs ns ks ys ws l → Chained o cs ns ks ys (headOf ws) l

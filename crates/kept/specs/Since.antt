@@ -12,7 +12,8 @@ use Rattle.rule.specs.Voice.{Tuning}
 use Rattle.rule.specs.Calls.{Call, Opening, block, instant, inputs, count}
 use Rattle.rule.specs.State.{back}
 use Rattle.line.specs.Ring.{ring}
-use Rattle.voice.specs.Struct.{voiceOf}
+use Rattle.voice.specs.Struct.{voiceOf, stateOf}
+use Rattle.voice.specs.Valid.{Valid}
 use Rattle.voice.specs.Called.{Called, On, lent}
 use Rattle.open.specs.Opened.{Opens}
 use Rattle.packed.specs.Words.{headOf}
@@ -37,6 +38,11 @@ pub data Since (o : Opening) : List Call → List ℕ → List ℕ → List ℤ 
       → On (headOf ws) l (block xs (length before)) (answerOf n us) m
       → out ≡ lent (headOf ws) l (block xs (length before)) before
       → Since o (cs ++ (block xs (length before) ∷ [])) (ns ++ (n ∷ [])) (ks ++ (0 ∷ [])) (ys ++ heard n out) us m
+  -- "A stored and resumed voice goes on as if never stopped" (document 02, L10): the words and the line are replaced by
+  -- others of the same voice, which a load of what was stored leaves (crate snapshot: `Resumes`)
+  resumed : {cs : List Call} {ns ks : List ℕ} {ys : List ℤ} {ws us : List ℕ} {l m : List ℤ}
+      → Since o cs ns ks ys ws l → stateOf (headOf us) m ≡ stateOf (headOf ws) l → Valid (headOf us) m
+      → Since o cs ns ks ys us m
 
 pub record Lists : Type 0 where
   pub chained : {o : Opening} {cs : List Call} {ns ks : List ℕ} {ys : List ℤ} {ws : List ℕ} {l : List ℤ}

@@ -19,9 +19,9 @@ use Rattle.rule.proofs.Read.{getD-within}
 use Rattle.octets.specs.Octets.{number, bytes, laid}
 use Rattle.octets.proofs.Laws.{laid-nil, laid-next, laid-length, bytes-length, number-bytes}
 use Rattle.octets.proofs.Theorems.{number-back}
-use Rattle.form.specs.Parts.{encoded, packed, size, mapByte, word, same, parts, chosen, usual}
+use Rattle.form.specs.Parts.{encoded, packed, size, mapByte, word, same, parts, chosen, refusedParts}
 use Rattle.form.proofs.Packing.{encoded-length}
-use Rattle.form.proofs.Numbers.{word-under, usual-line}
+use Rattle.form.proofs.Numbers.{word-under, refused-line}
 use Rattle.form.proofs.Refusals.{turned-at}
 use Rattle.store.specs.Puts.{given, changeOf, flagsOf, Puts, Packs, Chooses}
 use Rattle.store.specs.declared.Words.{Words}
@@ -183,7 +183,7 @@ pub choose : (w : Words) (sounds : Bool) (b : Bits)
     → b .change ≡ not (same (changeOf w) (0 ∷ 0 ∷ 0 ∷ 0 ∷ 0 ∷ 0 ∷ 0 ∷ 0 ∷ []))
     → b .pluck ≡ not (same (w .amplitude ∷ w .left ∷ w .noise ∷ []) (0 ∷ 0 ∷ 0 ∷ [])) → b .line ≡ sounds
     → Chooses w sounds b
-unfolding chosen usual parts stored
+unfolding chosen refusedParts parts stored
 choose w sounds b t l a y s c p n ws e =
     rw (
       t,
@@ -220,12 +220,12 @@ unfolding size
 size-end = refl
 
 line-size : 4 * length (map word (reverse silence)) ≡ 8448
-line-size = omega (arith, usual-line)
+line-size = omega (arith, refused-line)
 
-pub size-is : (b : Bits) → size (flagsOf b) usual
+pub size-is : (b : Bits) → size (flagsOf b) refusedParts
     ≡ cond (b .tuning) 12 0 + (cond (b .loss) 4 0 + (cond (b .advance) 4 0 + (cond (b .last) 4 0
     + (cond (b .state) 12 0 + (cond (b .change) 32 0 + (cond (b .pluck) 12 0 + cond (b .line) 8448 0))))))
-unfolding usual parts
+unfolding refusedParts parts
 size-is b =
     size-part (b .tuning) _ _ _ 12 refl
     ∙ ap (λ (n : ℕ). cond (b .tuning) 12 0 + n) (size-part (b .loss) _ _ _ 4 refl

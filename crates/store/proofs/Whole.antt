@@ -20,7 +20,7 @@ use Rattle.octets.specs.Octets.{bytes, laid}
 use Rattle.octets.proofs.Laws.{laid-next, laid-length}
 use Rattle.rule.specs.State.{State, silence}
 use Rattle.form.specs.Numbers.{numbersOf}
-use Rattle.form.specs.Parts.{word, value, same, parts, usual, mapByte, packed, size, chosen, stored}
+use Rattle.form.specs.Parts.{word, value, same, parts, refusedParts, mapByte, packed, size, chosen, stored}
 use Rattle.form.specs.Loads.{storeNumber, storeLength, left}
 use Rattle.form.specs.Theorems.{Storable}
 use Rattle.form.proofs.Packing.{same-is, is-same, Shaped, packed-length, map-under}
@@ -127,10 +127,10 @@ module _ (h : Head) (l : List ℤ) (v : Valid h l) (n : length l ≡ 2112) (w : 
   can : Storable st
   can = storable h l v n
 
-  bits-are : flagsOf b ≡ chosen (parts (numbersOf st)) usual
+  bits-are : flagsOf b ≡ chosen (parts (numbersOf st)) refusedParts
   bits-are =
       c ws (e ∙ sounding (h .at) l (can .whole .many) (can .whole .within))
-      ∙ ap (λ (ps : List (List ℕ)). chosen ps usual) (ww l)
+      ∙ ap (λ (ps : List (List ℕ)). chosen ps refusedParts) (ww l)
 
   stored-is : mapByte (flagsOf b) ∷ body ≡ stored st
   unfolding stored
@@ -138,15 +138,15 @@ module _ (h : Head) (l : List ℤ) (v : Valid h l) (n : length l ≡ 2112) (w : 
       ap (λ (ps : List (List ℕ)). mapByte (flagsOf b) ∷ packed (flagsOf b) ps) (ww l)
       ∙ ap (λ (bs : List Bool). mapByte bs ∷ packed bs (parts (numbersOf st))) bits-are
 
-  pub body-long : length body ≡ size (flagsOf b) usual
+  pub body-long : length body ≡ size (flagsOf b) refusedParts
   body-long =
       packed-length (flagsOf b)
-      (subst (λ (ps : List (List ℕ)). Shaped ps usual) (sym (ww l)) (of-voice st can))
+      (subst (λ (ps : List (List ℕ)). Shaped ps refusedParts) (sym (ww l)) (of-voice st can))
 
-  pub stored-long : length (stored st) ≡ 1 + size (flagsOf b) usual
+  pub stored-long : length (stored st) ≡ 1 + size (flagsOf b) refusedParts
   stored-long = omega (arith, ap length stored-is, body-long)
 
-  pub too-short : (old : List ℕ) → length old < 1 + size (flagsOf b) usual
+  pub too-short : (old : List ℕ) → length old < 1 + size (flagsOf b) refusedParts
       → Stores st old old (record { refusal = 18; length = 0 })
   too-short old s =
       let r = refuses .storing st old .short .1 (omega (arith, stored-long)) in
@@ -157,7 +157,7 @@ module _ (h : Head) (l : List ℤ) (v : Valid h l) (n : length l ≡ 2112) (w : 
   unfolding bytes
   one-byte m s = let i : m % 256 ≡ m = omega arith in rw i
 
-  all-there : (old mid new : List ℕ) (r : ℕ) → 1 + size (flagsOf b) usual ≤ length old
+  all-there : (old mid new : List ℕ) (r : ℕ) → 1 + size (flagsOf b) refusedParts ≤ length old
       → mid ≡ laid old 0 (bytes 1 (mapByte (flagsOf b))) → Packs mid new 1 (flagsOf b) (partsOf w ws) r
       → new ≡ over (stored st) old
   all-there old mid new r s i p =
@@ -172,7 +172,7 @@ module _ (h : Head) (l : List ℤ) (v : Valid h l) (n : length l ≡ 2112) (w : 
       at-front : (x : List ℕ) → laid old 0 x ≡ over x old
       at-front x = let z : 0 + length x ≡ length x = omega arith in ap (λ (k : ℕ). x ++ drop k old) z
 
-  pub fits-in : (old mid new : List ℕ) (r : ℕ) → 1 + size (flagsOf b) usual ≤ length old
+  pub fits-in : (old mid new : List ℕ) (r : ℕ) → 1 + size (flagsOf b) refusedParts ≤ length old
       → mid ≡ laid old 0 (bytes 1 (mapByte (flagsOf b))) → Packs mid new 1 (flagsOf b) (partsOf w ws) r
       → Stores st old new (record { refusal = 0; length = r })
   unfolding storeLength left

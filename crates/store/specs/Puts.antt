@@ -7,7 +7,7 @@ use Prim.Native.Nat.{ℕ, _+_}
 use lib.ListN.{length}
 use Rattle.octets.specs.Octets.{laid}
 use Rattle.rule.specs.State.{silence}
-use Rattle.form.specs.Parts.{encoded, packed, word, same, chosen, usual}
+use Rattle.form.specs.Parts.{encoded, packed, word, same, chosen, refusedParts}
 use Rattle.store.specs.declared.Words.{Words}
 use Rattle.store.specs.declared.Bits.{Bits}
 
@@ -48,4 +48,4 @@ pub record Packs (old new : List ℕ) (at : ℕ) (bs : List Bool) (ps : List (Li
 -- the bits of the parts that differ from those of Open's refusal voice, where sounds tells it of the line
 abbrev pub Chooses : Words → Bool → Bits → Type 0
 Chooses w sounds b =
-    (ws : List ℕ) → sounds ≡ not (same ws (map word (reverse silence))) → flagsOf b ≡ chosen (partsOf w ws) usual
+    (ws : List ℕ) → sounds ≡ not (same ws (map word (reverse silence))) → flagsOf b ≡ chosen (partsOf w ws) refusedParts
