@@ -3,7 +3,7 @@ _jivaszte() {
     local word=${COMP_WORDS[COMP_CWORD]} before=${COMP_WORDS[COMP_CWORD - 1]} command=${COMP_WORDS[1]} options=
     COMPREPLY=()
     if [ "$COMP_CWORD" -eq 1 ]; then
-        COMPREPLY=($(compgen -W 'play plot page compile show check note advance help --help --version' -- "$word"))
+        COMPREPLY=($(compgen -W 'play plot page compile merge show check note advance help --help --version' -- "$word"))
         return
     fi
     case $before in
@@ -12,11 +12,12 @@ _jivaszte() {
         -a | --advance | -d | --delay | -R | --ring) return ;;
     esac
     case $command in
-        help) COMPREPLY=($(compgen -W 'play plot page compile show check note advance' -- "$word")) && return ;;
+        help) COMPREPLY=($(compgen -W 'play plot page compile merge show check note advance' -- "$word")) && return ;;
         play) options='--output --rate --advance --ring --through --help' ;;
         plot) options='--output --rate --advance --click --help' ;;
         page) options='--output --help' ;;
         compile) options='--output --rate --help' ;;
+        merge) options='--output --rate --advance --help' ;;
         show) options='--rate --help' ;;
         check) options='--rate --json --help' ;;
         note) options='--rate --order --json --help' ;;

@@ -2,6 +2,7 @@
 //! voice, its run of a score, its record reader, its notes and its writer of WAV files. Files and words are
 //! done here.
 
+pub mod alone;
 pub mod arguments;
 pub mod bytes;
 pub mod click;
@@ -13,6 +14,7 @@ pub mod files;
 pub mod ideal;
 pub mod json;
 pub mod kind;
+pub mod merge;
 pub mod meter;
 pub mod new_file;
 pub mod note;

@@ -16,7 +16,7 @@ use jivaszte::Refusal;
 use std::path::Path;
 
 pub struct Tune {
-    name: String,
+    pub name: String,
     pub bytes: Vec<u8>,
     pub rate: u32,
     text: Option<Compiled>,
@@ -59,6 +59,10 @@ impl Tune {
         Score::decode(&self.bytes).map_err(|Damage { place, refusal }| {
             Failure::input(format!("{}: {place}: {}", self.name, self.words(refusal)))
         })
+    }
+
+    pub fn is_text(&self) -> bool {
+        self.text.is_some()
     }
 
     /// Where the advance comes from.
@@ -116,7 +120,7 @@ impl Tune {
     }
 
     /// What was refused, with its place: line and column of a text, index and offset of a record.
-    fn refused(&self, Refused { refusal, record }: Refused) -> String {
+    pub fn refused(&self, Refused { refusal, record }: Refused) -> String {
         let words = self.words(refusal);
         match &self.text {
             Some(text) => located(&self.name, &Fault::new(text.spot(refusal, record), words)),

@@ -4,6 +4,7 @@ mod advance;
 mod advance_json;
 mod check;
 mod compile;
+mod merge;
 mod note;
 mod page;
 mod play;
@@ -19,11 +20,12 @@ use std::ffi::OsString;
 /// A command: its name, the letters of its options, its help, and what it does.
 type Command = (&'static str, &'static str, &'static str, fn(&Arguments) -> Outcome);
 
-pub const COMMANDS: [Command; 8] = [
+pub const COMMANDS: [Command; 9] = [
     ("play", "oraRt", include_str!("help/play.txt"), play::run),
     ("plot", "orac", include_str!("help/plot.txt"), plot::run),
     ("page", "o", include_str!("help/page.txt"), page::run),
     ("compile", "or", include_str!("help/compile.txt"), compile::run),
+    ("merge", "ora", include_str!("help/merge.txt"), merge::run),
     ("show", "r", include_str!("help/show.txt"), show::run),
     ("check", "rj", include_str!("help/check.txt"), check::run),
     ("note", "rnj", include_str!("help/note.txt"), note::run),

@@ -10,7 +10,7 @@ use Rattle.outline.specs.Outline.{Outline}
 use Rattle.outline.specs.Struct.{outlineOf}
 use Rattle.outline.proofs.Playing.{shorter}
 use Rattle.timeline.specs.Events.{Event, event}
-use Rattle.timeline.specs.Merged.{merged}
+use Rattle.timeline.specs.Merged.{mergeRecord}
 use Rattle.merge.specs.declared.Side.{Side}
 use Rattle.merge.specs.declared.Pair.{Pair}
 use Rattle.merge.specs.Left.{Left, LeftAt, OnWay, Took}
@@ -25,8 +25,8 @@ is-left : (s : List ℕ) (at : ℕ) → 0 < length (drop at s) → at < length s
 is-left s at h = omega (arith, length-drop at s)
 
 -- a bit map is a byte
-map-small : (w : ℕ) (e : Event) → getD (merged w e) 1 0 < 256
-unfolding merged
+map-small : (w : ℕ) (e : Event) → getD (mergeRecord w e) 1 0 < 256
+unfolding mergeRecord
 map-small w e = omega arith
 
 -- and a record takes a byte at least
@@ -91,7 +91,7 @@ module _ (N Na : ℕ) (first second : List ℕ) (p : Pair) {ls : List (List ℕ)
         is =
             f .is
             ∙ ap (λ (r : List ℕ). r ∷ f .rest-of)
-            (ap (λ (n : ℕ). merged n (event (f .moment) (fields s) o)) (sym e) ∙ sym (a .record-is (f .moment)));
+            (ap (λ (n : ℕ). mergeRecord n (event (f .moment) (fields s) o)) (sym e) ∙ sym (a .record-is (f .moment)));
         left = record {
           first-at = a .within;
           second-at = omega (arith, b .at-is, h .second-at);
@@ -121,7 +121,7 @@ module _ (N Na : ℕ) (first second : List ℕ) (p : Pair) {ls : List (List ℕ)
         is =
             f .is
             ∙ ap (λ (r : List ℕ). r ∷ f .rest-of)
-            (ap (λ (n : ℕ). merged n (event (f .moment) (fields t) u)) (sym e) ∙ sym (a .record-is (f .moment)));
+            (ap (λ (n : ℕ). mergeRecord n (event (f .moment) (fields t) u)) (sym e) ∙ sym (a .record-is (f .moment)));
         left = record {
           first-at = omega (arith, b .at-is, h .first-at);
           second-at = a .within;

@@ -12,7 +12,7 @@ use Rattle.timeline.specs.Merge.{merge}
 use Rattle.timeline.specs.Events.{Event, event, events}
 use Rattle.timeline.specs.Order.{at, Ready}
 use Rattle.timeline.specs.Order as Order
-use Rattle.timeline.specs.Merged.{merged, mergedFrom}
+use Rattle.timeline.specs.Merged.{mergeRecord, mergedFrom}
 use Rattle.timeline.proofs.Order.{events-ready}
 use Rattle.merge.specs.Left.{Holds, none, more, Left}
 
@@ -42,7 +42,7 @@ module _ (N Na : ℕ) where
     pub record First (ls : List (List ℕ)) : Type 0 where
       pub moment : ℕ
       pub rest-of : List (List ℕ)
-      pub is : ls ≡ merged w (event moment (fields s) o) ∷ rest-of
+      pub is : ls ≡ mergeRecord w (event moment (fields s) o) ∷ rest-of
       pub left : Left N Na (from Na o (recordCalls N Na (fields s) o)) 0 (rest s) u z t rest-of
 
     first-go : (p m n : ℕ) (rs us ls : List (List ℕ)) → Holds N Na o s rs → Holds N Na u t us
@@ -59,7 +59,7 @@ module _ (N Na : ℕ) where
         record {
           moment = m;
           rest-of = mergedFrom q (merge at (events N Na q v rs′) []);
-          is = sym i ∙ ap (λ (j : ℕ). merged j (event m (fields s) o) ∷ mergedFrom q (merge at (events N Na q v rs′) [])) f;
+          is = sym i ∙ ap (λ (j : ℕ). mergeRecord j (event m (fields s) o) ∷ mergedFrom q (merge at (events N Na q v rs′) [])) f;
           left = record {
             now = q;
             last-first = q;
@@ -87,7 +87,7 @@ module _ (N Na : ℕ) where
         record {
           moment = m;
           rest-of = mergedFrom q (merge at (events N Na q v rs′) fs);
-          is = sym lists ∙ ap (λ (j : ℕ). merged j (event m (fields s) o) ∷ mergedFrom q (merge at (events N Na q v rs′) fs)) f;
+          is = sym lists ∙ ap (λ (j : ℕ). mergeRecord j (event m (fields s) o) ∷ mergedFrom q (merge at (events N Na q v rs′) fs)) f;
           left = record {
             now = q;
             last-first = q;
@@ -118,7 +118,7 @@ module _ (N Na : ℕ) where
     pub record Second (ls : List (List ℕ)) : Type 0 where
       pub moment : ℕ
       pub rest-of : List (List ℕ)
-      pub is : ls ≡ merged w₂ (event moment (fields t) u) ∷ rest-of
+      pub is : ls ≡ mergeRecord w₂ (event moment (fields t) u) ∷ rest-of
       pub left : Left N Na o z s (from Na u (recordCalls N Na (fields t) u)) 0 (rest t) rest-of
 
     second-go : (p m n : ℕ) (rs us ls : List (List ℕ)) → Holds N Na o s rs → Holds N Na u t us
@@ -135,7 +135,7 @@ module _ (N Na : ℕ) where
         record {
           moment = n;
           rest-of = mergedFrom q (events N Na q v us′);
-          is = sym i ∙ ap (λ (j : ℕ). merged j (event n (fields t) u) ∷ mergedFrom q (events N Na q v us′)) f;
+          is = sym i ∙ ap (λ (j : ℕ). mergeRecord j (event n (fields t) u) ∷ mergedFrom q (events N Na q v us′)) f;
           left = record {
             now = q;
             last-first = m;
@@ -163,7 +163,7 @@ module _ (N Na : ℕ) where
         record {
           moment = n;
           rest-of = mergedFrom q (merge at es (events N Na q v us′));
-          is = sym lists ∙ ap (λ (j : ℕ). merged j (event n (fields t) u) ∷ mergedFrom q (merge at es (events N Na q v us′))) f;
+          is = sym lists ∙ ap (λ (j : ℕ). mergeRecord j (event n (fields t) u) ∷ mergedFrom q (merge at es (events N Na q v us′))) f;
           left = record {
             now = q;
             last-first = m;

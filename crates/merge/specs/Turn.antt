@@ -9,7 +9,7 @@ use Rattle.follow.specs.Follow.{value}
 use Rattle.outline.specs.Outline.{from, result, recordCalls}
 use Rattle.outline.specs.Struct.{outlineOf}
 use Rattle.timeline.specs.Events.{event}
-use Rattle.timeline.specs.Merged.{merged}
+use Rattle.timeline.specs.Merged.{mergeRecord}
 use Rattle.merge.specs.declared.Choice.{Choice}
 use Rattle.merge.specs.declared.Side.{Side}
 use Rattle.merge.specs.declared.Pair.{Pair}
@@ -44,7 +44,7 @@ module _ (first second : List ℕ) (p : Pair) where
 
 -- r is the score s behind its next record, whose merged record after a wait is q
 pub record Steps (N Na : ℕ) (score : List ℕ) (s : Side) (wait : ℕ) (r : Side) (q : List ℕ) : Type 0 where
-  pub record-is : (m : ℕ) → q ≡ merged wait (event m (next score s) (outlineOf (s .course)))
+  pub record-is : (m : ℕ) → q ≡ mergeRecord wait (event m (next score s) (outlineOf (s .course)))
   pub within : r .at ≤ length score
   pub rest-is : drop (r .at) score ≡ rest (drop (s .at) score)
   pub since-is : r .since ≡ 0

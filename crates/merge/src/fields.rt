@@ -5,7 +5,7 @@ ghost use lib.ListN.{length, getD};
 ghost use Rattle.octets.specs.Octets.{laid};
 ghost use Rattle.record.specs.Record.{bytes as Bytes, present as Present};
 ghost use Rattle.follow.specs.Follow.{countOf};
-ghost use Rattle.timeline.specs.Merged.{changes as Changes, mapFor, merged, fieldBytes, recordBytes};
+ghost use Rattle.timeline.specs.Merged.{changes as Changes, mapFor, mergeRecord, fieldBytes, recordBytes};
 use follow::changes::chosen;
 use octets::put;
 use outline::Span;
@@ -57,7 +57,7 @@ fn merged_map(wait: u32, r: &[u32; 9]) -> u32
 
 // The merged record of r after a wait, with the L and d that its own score would use.
 pub fn merge_record(wait: u32, to: Span, r: &[u32; 9], q: &mut [u32; 9])
-    ensures { λ _. ⌜ ((m : ℕ) → now (q .exit) ≡ merged wait (record {
+    ensures { λ _. ⌜ ((m : ℕ) → now (q .exit) ≡ mergeRecord wait (record {
       moment = m;
       own = now (r .entry);
       L = to .length;

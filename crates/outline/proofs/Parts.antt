@@ -15,21 +15,21 @@ use Rattle.outline.specs.declared.Course.{Course}
 use Rattle.outline.specs.declared.Span.{Span}
 use Rattle.outline.specs.Outline.{Ahead, Outline, inForce, changeTests, told, from, result, lengthTo, delayTo}
 use Rattle.outline.specs.Outline.{changing, changeCalls, lossCalls, pluckCalls, actCalls}
-use Rattle.outline.specs.Struct.{aheadOf, outlineOf, Asks, changed, Changes, Acts}
+use Rattle.outline.specs.Struct.{aheadOf, outlineOf, Asks, afterChange, Changes, Acts}
 use Rattle.outline.proofs.Calls.{no-change, change-result, change-from, act-loss, act-change, act-pluck, act-from}
 
 module _ (Na : ℕ) (o : Outline) (L d i : ℕ) where
-  pub without-advance : Na ≡ 0 → inForce L d ≡ changed Na o L d i
+  pub without-advance : Na ≡ 0 → inForce L d ≡ afterChange Na o L d i
   without-advance e = rw (eq-eqb 0 Na (sym e)) (go (eqb i 0))
     where
       go : (b : Bool) → inForce L d ≡ cond b (inForce L d) (inForce L d)
       go true = refl
       go false = refl
 
-  pub at-once : (i ≡ 0 → ⊥) → inForce L d ≡ changed Na o L d i
+  pub at-once : (i ≡ 0 → ⊥) → inForce L d ≡ afterChange Na o L d i
   at-once f = rw (ne-eqb i 0 f) refl
 
-  pub ahead : (Na ≡ 0 → ⊥) → i ≡ 0 → record { L = o .L; d = o .d; ahead = aheadOf L d Na } ≡ changed Na o L d i
+  pub ahead : (Na ≡ 0 → ⊥) → i ≡ 0 → record { L = o .L; d = o .d; ahead = aheadOf L d Na } ≡ afterChange Na o L d i
   ahead f e = rw (eq-eqb i 0 e, ne-eqb 0 Na (λ z. f (sym z))) (go Na f)
     where
       go : (n : ℕ) → (n ≡ 0 → ⊥)
@@ -68,13 +68,13 @@ module _ (N Na : ℕ) (r : List ℕ) (o : Outline) (x : Span) (a : Asks o r x) w
       asks = a;
     }
 
-    pub accepted : (c : Course) → n ≡ 0 → outlineOf c ≡ changed Na o (x .length) (x .delay) (stands r 7)
+    pub accepted : (c : Course) → n ≡ 0 → outlineOf c ≡ afterChange Na o (x .length) (x .delay) (stands r 7)
         → Changes N Na o r (record { refusal = 0; span = x; course = c })
     accepted c g h = record {
       number = sym g ∙ number-is ∙ sym (change-result N Na r o f);
       course-is = λ z.
           h
-          ∙ ap (λ (to : Tuning). changed Na o (to .L) (to .d) (stands r 7)) to-is
+          ∙ ap (λ (to : Tuning). afterChange Na o (to .L) (to .d) (stands r 7)) to-is
           ∙ sym (changing-told (eqb (stands r 7) 0) Na o (tuning N (lengthTo r o) (delayTo r o)))
           ∙ sym (change-from N Na r o f (sym number-is ∙ g));
       asks = a;

@@ -37,8 +37,8 @@ pub record Asks (o : Outline) (r : List ℕ) (x : Span) : Type 0 where
   pub delay-is : x .delay ≡ delayTo r o
 
 -- the outline o after a change to L and d that is accepted: at once by the bit i, and where the advance is 0
-abbrev pub changed : ℕ → Outline → ℕ → ℕ → ℕ → Outline
-changed Na o L d i =
+abbrev pub afterChange : ℕ → Outline → ℕ → ℕ → ℕ → Outline
+afterChange Na o L d i =
     cond (eqb i 0)
     (cond (eqb 0 Na) (inForce L d)
     (record { L = o .L; d = o .d; ahead = some (record { L = L; d = d; left = Na }) }))

@@ -6,7 +6,7 @@ ghost use Rattle.refusal.specs.Limits.{refusal as Refusal};
 ghost use Rattle.rule.specs.Voice.{tuning as Tuning};
 ghost use Rattle.outline.specs.Outline.{Outline, passed as Passed, waits as Waits, changeTests};
 ghost use Rattle.outline.specs.Outline.{result, lossCalls, pluckCalls};
-ghost use Rattle.outline.specs.Struct.{aheadOf, outlineOf, Order, Asks, changed, Changes, Acts};
+ghost use Rattle.outline.specs.Struct.{aheadOf, outlineOf, Order, Asks, afterChange, Changes, Acts};
 ghost use Rattle.outline.specs.Struct.{Follows, PlaysAll};
 use follow::changes::chosen;
 use record::AMPLITUDE;
@@ -143,7 +143,7 @@ fn change_number(order: u32, c: Course, to: Span) -> u32
 
 // The course after a change to L and d that is accepted.
 fn after_change(advance: u32, c: Course, to: Span, instant: u32) -> Course
-    ensures { λ x. ⌜ outlineOf x ≡ changed advance (outlineOf c) (to .length) (to .delay) instant ⌝ }
+    ensures { λ x. ⌜ outlineOf x ≡ afterChange advance (outlineOf c) (to .length) (to .delay) instant ⌝ }
 {
     if advance == 0 {
         return Course {

@@ -12,7 +12,7 @@ use Rattle.record.specs.Record.{bit, present}
 use Rattle.follow.specs.Follow.{value, stands, absent, countOf}
 use Rattle.outline.specs.Outline.{Outline, passed, from, recordCalls, lossCalls, changing, changeCalls, pluckCalls}
 use Rattle.timeline.specs.Events.{Event, event, events}
-use Rattle.timeline.specs.Merged.{changes, mapFor, merged, mergedFrom}
+use Rattle.timeline.specs.Merged.{changes, mapFor, mergeRecord, mergedFrom}
 use Rattle.timeline.specs.Timed.{Timed, timed}
 use Rattle.timeline.specs.Order.{at, Ready}
 use Rattle.timeline.specs.Order as Order
@@ -44,26 +44,26 @@ pluck-part zero a n z = refl
 pluck-part (suc p) a n z = rw (eqb·suc-zero p) refl
 
 module _ (N w : ℕ) (e : Event) (o : Outline) where
-  pub merged-loss : lossCalls (merged w e) o ≡ cond (absent (e .own) 3) [] (loss (value (e .own) 3) ∷ [])
-  unfolding merged
+  pub merged-loss : lossCalls (mergeRecord w e) o ≡ cond (absent (e .own) 3) [] (loss (value (e .own) 3) ∷ [])
+  unfolding mergeRecord
   merged-loss = let b = map-bits w (e .own) in rw (b .b3) refl
 
-  pub merged-change : changeCalls N (merged w e) o
+  pub merged-change : changeCalls N (mergeRecord w e) o
       ≡ cond (eqb (stands (e .own) 1 + stands (e .own) 2) 0) [] (changing (e .own) (tuning N (e .L) (e .d)) ∷ [])
-  unfolding merged
+  unfolding mergeRecord
   merged-change =
       let b = map-bits w (e .own) in
       rw (b .b1, b .b2, b .b7)
       (change-part (stands (e .own) 1 + stands (e .own) 2) (changing (e .own)) N (o .L) (o .d) (e .L) (e .d) refl)
 
-  pub merged-pluck : pluckCalls (merged w e) o
+  pub merged-pluck : pluckCalls (mergeRecord w e) o
       ≡ cond (absent (e .own) 4) [] (pluck (value (e .own) 4) (countOf (e .own)) (value (e .own) 6) ∷ [])
-  unfolding merged
+  unfolding mergeRecord
   merged-pluck =
       let b = map-bits w (e .own) in
       rw (b .b4, b .b5) (pluck-part (stands (e .own) 4) (value (e .own) 4) (countOf (e .own)) (value (e .own) 6))
 
-  pub merged-doings : all N (merged w e) o ≡ doings N e
+  pub merged-doings : all N (mergeRecord w e) o ≡ doings N e
   merged-doings =
       ap₂ (λ (x y : List Call). x ++ y) merged-loss
       (ap₂ (λ (x y : List Call). x ++ y) merged-change merged-pluck)
@@ -92,7 +92,7 @@ module _ (N Na : ℕ) where
   unfolding mergedFrom
   merged-timed n o Order.done s = refl
   merged-timed n o (Order.next {e = e} {es = es} l k y) (next z s) =
-      let r = merged (at e - n) e in
+      let r = mergeRecord (at e - n) e in
       let u = from Na o (recordCalls N Na r o) in
       let i : n + (at e - n) ≡ at e = omega arith in
       one-timed n r o (listed N Na u (mergedFrom (at e) es)) e

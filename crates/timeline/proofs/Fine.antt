@@ -21,7 +21,7 @@ use Rattle.outline.specs.Outline.{waits, lengthTo, delayTo}
 use Rattle.outline.proofs.Calls.{single, change-number}
 use Rattle.timeline.specs.Merge.{merge}
 use Rattle.timeline.specs.Events.{Event, event, events}
-use Rattle.timeline.specs.Merged.{changes, mapFor, merged, mergedFrom}
+use Rattle.timeline.specs.Merged.{changes, mapFor, mergeRecord, mergedFrom}
 use Rattle.timeline.specs.Order.{at, Ready}
 use Rattle.timeline.specs.Order as Order
 use Rattle.timeline.proofs.Acts.{accepts}
@@ -83,8 +83,8 @@ module _ (w : ℕ) (e : Event) (h : w < 65536) (f : Fine e) where
   abbrev M : ℕ
   M = mapFor w r
 
-  merged-field : (k : ℕ) → k < 7 → Field (stands (merged w e) k) (value (merged w e) k)
-  unfolding merged
+  merged-field : (k : ℕ) → k < 7 → Field (stands (mergeRecord w e) k) (value (mergeRecord w e) k)
+  unfolding mergeRecord
   merged-field zero l =
       let b = map-bits w r in
       rw (b .b0) (record { small = h; absent = λ z. omega arith })
@@ -108,8 +108,8 @@ module _ (w : ℕ) (e : Event) (h : w < 65536) (f : Fine e) where
       rw (b .b6) (f .sound .field 6 (omega arith))
   merged-field (suc (suc (suc (suc (suc (suc (suc k))))))) l = absurd (omega arith)
 
-  merged-formed : illFormed (getD (merged w e) 1 0) ≡ 0
-  unfolding merged
+  merged-formed : illFormed (getD (mergeRecord w e) 1 0) ≡ 0
+  unfolding mergeRecord
   merged-formed =
       let b = map-bits w r in
       let own = f .sound .formed in
@@ -117,13 +117,13 @@ module _ (w : ℕ) (e : Event) (h : w < 65536) (f : Fine e) where
       let q = formed-change (stands r 1 + stands r 2) (stands r 7) refl (omega arith) in
       rw (b .b1, b .b2, b .b4, b .b5, b .b6, b .b7) (omega (arith, p, q))
 
-  pub merged-sound : Sound (merged w e)
+  pub merged-sound : Sound (mergeRecord w e)
   merged-sound = record { field = merged-field; formed = merged-formed }
 
 merged-shape : (w : ℕ) (e : Event)
-    → let r = merged w e in
+    → let r = mergeRecord w e in
     0 ∷ getD r 1 0 ∷ value r 0 ∷ value r 1 ∷ value r 2 ∷ value r 3 ∷ value r 4 ∷ value r 5 ∷ value r 6 ∷ [] ≡ r
-unfolding merged
+unfolding mergeRecord
 merged-shape w e = refl
 
 pub written : {p : ℕ} {es : List Event} → Ready p es → All Fine es → Written (mergedFrom p es)

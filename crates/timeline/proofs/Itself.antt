@@ -21,7 +21,7 @@ use Rattle.outline.specs.Outline.{Outline, passed, result, from, then, waitCall
 use Rattle.outline.specs.Outline.{inForce, actCalls, recordCalls, played, records, opened, run}
 use Rattle.timeline.specs.Merge.{merge}
 use Rattle.timeline.specs.Events.{Event, event, recordsIn, events, eventsOf, listOf}
-use Rattle.timeline.specs.Merged.{merged, mergedFrom, both, mergedRecords, recordBytes, allBytes, mergeOf}
+use Rattle.timeline.specs.Merged.{mergeRecord, mergedFrom, both, mergedRecords, recordBytes, allBytes, mergeOf}
 use Rattle.timeline.specs.Theorems.{Plays, Itself}
 use Rattle.timeline.specs.Order.{at}
 use Rattle.outline.proofs.Calls.{then-calls, wait-accepted, wait-passes, loss-keeps}
@@ -55,14 +55,14 @@ module _ (n na : ℕ) (r : List ℕ) (o : Outline) where
 
 -- ---- a record with its fields written out makes the same calls
 same-calls : (n na m : ℕ) (r : List ℕ) (o : Outline) → result na o (recordCalls n na r o) ≡ 0
-    → recordCalls n na (merged (value r 0) (event m r o)) o ≡ recordCalls n na r o
-unfolding merged
+    → recordCalls n na (mergeRecord (value r 0) (event m r o)) o ≡ recordCalls n na r o
+unfolding mergeRecord
 same-calls n na m r o e =
     let p = accepts n na r o e in
     let x = event m r o in
     let w = value r 0 in
     let v = passed w o in
-    made n na (merged w x) o
+    made n na (mergeRecord w x) o
     (ap (λ (cs : List Call). result na v cs) (merged-loss n w x v) ∙ p .loss-taken)
     (ap (λ (cs : List Call). result na v cs) (merged-change n w x v) ∙ p .change)
     ∙ ap (λ (cs : List Call). waiting w ∷ cs) (merged-doings n w x v)
@@ -70,10 +70,10 @@ same-calls n na m r o e =
 
 module _ (n na : ℕ) where
   same-record : (m : ℕ) (r : List ℕ) (o : Outline) → result na o (recordCalls n na r o) ≡ 0
-      → recordCalls n na (merged (m + value r 0 - m) (event m r o)) o ≡ recordCalls n na r o
+      → recordCalls n na (mergeRecord (m + value r 0 - m) (event m r o)) o ≡ recordCalls n na r o
   same-record m r o e =
       let i : m + value r 0 - m ≡ value r 0 = omega arith in
-      ap (λ (w : ℕ). recordCalls n na (merged w (event m r o)) o) i ∙ same-calls n na m r o e
+      ap (λ (w : ℕ). recordCalls n na (mergeRecord w (event m r o)) o) i ∙ same-calls n na m r o e
 
   same-listed : (m : ℕ) {o : Outline} {rs : List (List ℕ)} → Ends n na o rs
       → listed n na o (mergedFrom m (events n na m o rs)) ≡ listed n na o rs
@@ -88,7 +88,7 @@ module _ (n na : ℕ) where
   unfolding events mergedFrom
   same-ends m done = done
   same-ends m (next {o} {r} {rs} z s) =
-      next {o = o} {r = merged (m + value r 0 - m) (event m r o)}
+      next {o = o} {r = mergeRecord (m + value r 0 - m) (event m r o)}
       {rs = mergedFrom (m + value r 0) (events n na (m + value r 0) (from na o (recordCalls n na r o)) rs)} (rw (same-record m r o z) z)
       (rw (same-record m r o z) (same-ends (m + value r 0) s))
 

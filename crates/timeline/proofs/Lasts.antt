@@ -14,7 +14,7 @@ use Rattle.follow.specs.Follow.{value}
 use Rattle.outline.specs.Outline.{Outline, passed, from, recordCalls}
 use Rattle.timeline.specs.Merge.{merge}
 use Rattle.timeline.specs.Events.{Event, event, events}
-use Rattle.timeline.specs.Merged.{merged, mergedFrom}
+use Rattle.timeline.specs.Merged.{mergeRecord, mergedFrom}
 use Rattle.timeline.specs.Timed.{lasts}
 use Rattle.timeline.specs.Order.{at, wait, Ready}
 use Rattle.timeline.proofs.Order.{merged-wait}
@@ -87,7 +87,7 @@ module _ (n₀ na : ℕ) where
   unfolding mergedFrom
   merged-lasts n o Order.done s = refl
   merged-lasts n o (Order.next {e = e} {es = es} l k y) (next z s) =
-      let r = merged (at e - n) e in
+      let r = mergeRecord (at e - n) e in
       let u = from na o (recordCalls n₀ na r o) in
       let i : n + value r 0 ≡ at e = omega (arith, merged-wait (at e - n) e) in
       one-lasts n r o (listed n₀ na u (mergedFrom (at e) es)) (accepts n₀ na r o z .calls)

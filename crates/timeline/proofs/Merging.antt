@@ -23,7 +23,7 @@ use Rattle.outline.proofs.Law.{law}
 use Rattle.follow.specs.Follow.{value}
 use Rattle.timeline.specs.Merge.{merge}
 use Rattle.timeline.specs.Events.{Event, events, eventsOf, recordsIn, listOf}
-use Rattle.timeline.specs.Merged.{merged, mergedFrom, both, mergedRecords, allBytes, mergeOf}
+use Rattle.timeline.specs.Merged.{mergeRecord, mergedFrom, both, mergedRecords, allBytes, mergeOf}
 use Rattle.timeline.specs.Timed.{Timed, timed, lasts}
 use Rattle.timeline.specs.Theorems.{Plays, Alone, does, Merges, Played, Merging}
 use Rattle.timeline.specs.Order.{at}

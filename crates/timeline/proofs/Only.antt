@@ -23,7 +23,7 @@ use Rattle.outline.specs.Outline.{numbers, result, then, waitCalls, lossCalls, 
 use Rattle.outline.specs.Outline.{actCalls, recordCalls}
 use Rattle.outline.proofs.Calls.{single, change-number, result-past, wait-accepted}
 use Rattle.timeline.specs.Events.{Event, event, events}
-use Rattle.timeline.specs.Merged.{merged}
+use Rattle.timeline.specs.Merged.{mergeRecord}
 use Rattle.timeline.specs.Theorems.{Possible, plays}
 use Rattle.timeline.specs.Theorems as Theorems
 use Rattle.timeline.proofs.Acts.{accepts, waiting}
@@ -171,7 +171,7 @@ events-took N Na m (next {o} {r} z s) =
 -- ---- in a merge it is refused by 6 alone
 module _ (N Na w : ℕ) (e : Event) (t : Took N Na e) where
   abbrev r : List ℕ
-  r = merged w e
+  r = mergeRecord w e
 
   wait-zero : (o : Outline) → result Na o (waitCalls r o) ≡ 0
   wait-zero o = rw (wait-accepted o (value r 0)) refl

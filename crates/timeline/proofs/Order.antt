@@ -11,10 +11,10 @@ use lib.ListN.{length}
 use Rattle.follow.specs.Follow.{value}
 use Rattle.score.specs.Run.{opening}
 use Rattle.outline.specs.Outline.{Outline, from, recordCalls, opened}
-use Rattle.timeline.specs.Merge.{placed, merge}
+use Rattle.timeline.specs.Merge.{insert, merge}
 use Rattle.timeline.specs.Events.{Event, event, events, eventsOf, listOf}
 use Rattle.timeline.specs.Order.{at, wait, Ready, done, next}
-use Rattle.timeline.specs.Merged.{merged, mergedFrom, mergedRecords, both}
+use Rattle.timeline.specs.Merged.{mergeRecord, mergedFrom, mergedRecords, both}
 use Rattle.timeline.specs.Theorems.{Shorter, none, more, WaitsLess}
 
 pub events-ready : (N Na m : ℕ) (o : Outline) (rs : List (List ℕ)) → Ready m (events N Na m o rs)
@@ -46,15 +46,15 @@ ready-merge [] fs s t = t
 ready-merge (e ∷ es) fs (next l k s) t = placed-ready e es (λ gs u. ready-merge es gs s u) fs l k t
 
 -- ---- so that a merged wait is the shorter one
-pub merged-wait : (w : ℕ) (e : Event) → value (merged w e) 0 ≡ w
-unfolding merged
+pub merged-wait : (w : ℕ) (e : Event) → value (mergeRecord w e) 0 ≡ w
+unfolding mergeRecord
 merged-wait w e = refl
 
 ready-shorter : {p : ℕ} {es : List Event} → Ready p es → Shorter (mergedFrom p es) es
 unfolding mergedFrom
 ready-shorter done = none
 ready-shorter {p} (next {e = e} l k s) =
-    more {r = merged (e .moment - p) e} {e = e} (omega (arith, merged-wait (e .moment - p) e)) (ready-shorter s)
+    more {r = mergeRecord (e .moment - p) e} {e = e} (omega (arith, merged-wait (e .moment - p) e)) (ready-shorter s)
 
 pub both-ready : (a b : List ℕ) → Ready 0 (both a b)
 unfolding eventsOf

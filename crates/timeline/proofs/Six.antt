@@ -23,7 +23,7 @@ use Rattle.outline.specs.Outline.{Outline, result, from, recordCalls, played, r
 use Rattle.outline.proofs.Law.{law}
 use Rattle.timeline.specs.Merge.{merge}
 use Rattle.timeline.specs.Events.{Event, eventsOf, listOf}
-use Rattle.timeline.specs.Merged.{merged, mergedFrom, both, mergedRecords, recordBytes, allBytes, mergeOf}
+use Rattle.timeline.specs.Merged.{mergeRecord, mergedFrom, both, mergedRecords, recordBytes, allBytes, mergeOf}
 use Rattle.timeline.specs.Theorems.{Plays, Possible, plays, OnlySix}
 use Rattle.timeline.specs.Order.{at, Ready}
 use Rattle.timeline.proofs.Order.{both-ready}
@@ -46,7 +46,7 @@ module _ (n₀ na : ℕ) where
   unfolding mergedFrom
   merged-only p Fine.none = none
   merged-only p (Fine.more {e = e} t ts) =
-      more {r = merged (at e - p) e} (merged-six n₀ na (at e - p) e t) (merged-only (at e) ts)
+      more {r = mergeRecord (at e - p) e} (merged-six n₀ na (at e - p) e t) (merged-only (at e) ts)
 
   pub no-records : (n : ℕ) (o : Outline) (k : ℕ) → records n₀ na n o [] k .number ≡ 0
   unfolding records

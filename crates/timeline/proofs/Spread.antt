@@ -8,7 +8,7 @@ use native.Mathlib.Omega.{arith}
 use borrow.Author.Tests.{leb-true, leb-false, le-leb, lt-leb}
 use lib.Dec.{leb}
 use Rattle.rule.specs.Calls.{Call}
-use Rattle.timeline.specs.Merge.{placed, merge}
+use Rattle.timeline.specs.Merge.{insert, merge}
 use Rattle.timeline.specs.Events.{Event}
 use Rattle.timeline.specs.Timed.{Timed}
 use Rattle.timeline.specs.Order.{at, Ready, done, next}

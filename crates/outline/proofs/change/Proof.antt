@@ -3,7 +3,7 @@ use borrow.Author.Needs.{needs}
 use mathlib.Core.Path.{_≡_, refl, sym, ap, ap₂, _∙_}
 use Prim.Native.Nat.{ℕ, _+_}
 use Rattle.follow.specs.Follow.{stands}
-use Rattle.outline.specs.Struct.{outlineOf, changed}
+use Rattle.outline.specs.Struct.{outlineOf, afterChange}
 use Rattle.outline.proofs.Parts.{kept, refused, accepted}
 use Rattle.outline.proofs.change.Statement.{statement}
 use Rattle.outline.proofs.change.Tie as tie
@@ -66,7 +66,7 @@ returns-3 c =
     accepted (s .order) (s .advance) (s .r .now) (outlineOf (s .c)) x (t .change-target .ensures)
     (λ z. e .if1 .left (stand (e .before) ∙ z)) (n .change-number .ensures) (c .after-change .result) (b .before .if2 .left)
     (c .after-change .ensures
-    ∙ ap (λ (i : ℕ). changed (s .advance) (outlineOf (s .c)) (x .length) (x .delay) i) (b .bit3 .ensures))
+    ∙ ap (λ (i : ℕ). afterChange (s .advance) (outlineOf (s .c)) (x .length) (x .delay) i) (b .bit3 .ensures))
 
 pub change-spec : {M : Type 1} → statement M
 change-spec =

@@ -7,7 +7,7 @@ use Prim.Native.Nat.{ℕ}
 use lib.Dec.{eqb}
 use Rattle.record.specs.Record.{present}
 use Rattle.follow.specs.Follow.{value, stands, countOf}
-use Rattle.timeline.specs.Merged.{changes, mapFor, merged}
+use Rattle.timeline.specs.Merged.{changes, mapFor, mergeRecord}
 use Rattle.merge.proofs.fields.merge_record.Statement.{statement}
 use Rattle.merge.proofs.fields.merge_record.Tie as tie
 
@@ -55,7 +55,7 @@ element-copy-out-t25 : tie.Need-element-copy-out-t25
 element-copy-out-t25 c = search needs
 
 returns : tie.Need-returns
-unfolding merged
+unfolding mergeRecord
 returns c =
     λ m.
     let p3 = c .before .before in

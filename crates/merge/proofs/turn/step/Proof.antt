@@ -10,7 +10,7 @@ use Rattle.record.specs.Record.{fields, rest}
 use Rattle.follow.specs.Follow.{value}
 use Rattle.outline.specs.Struct.{outlineOf, Follows}
 use Rattle.timeline.specs.Events.{Event}
-use Rattle.timeline.specs.Merged.{merged}
+use Rattle.timeline.specs.Merged.{mergeRecord}
 use Rattle.merge.specs.Turn.{next}
 use Rattle.merge.proofs.Tail.{shorter, tail-at}
 use Rattle.merge.proofs.turn.step.Statement.{statement}
@@ -75,13 +75,13 @@ returns c =
     record {
       record-is = λ m.
           c .merge-record .ensures (m + value (next score (s .args .s)) 0)
-          ∙ ap (λ (l : List ℕ). merged (s .args .wait) (record {
+          ∙ ap (λ (l : List ℕ). mergeRecord (s .args .wait) (record {
             moment = m + value (next score (s .args .s)) 0;
             own = l;
             L = f .follow .result .span .length;
             d = f .follow .result .span .delay;
           })) (read k)
-          ∙ ap₂ (λ (L d : ℕ). merged (s .args .wait) (record {
+          ∙ ap₂ (λ (L d : ℕ). mergeRecord (s .args .wait) (record {
             moment = m + value (next score (s .args .s)) 0;
             own = next score (s .args .s);
             L = L;
