@@ -26,7 +26,8 @@ use Rattle.voice.specs.declared.Kind.the-variants.{Announced, Asked}
 use Rattle.voice.specs.declared.Waiting.{Waiting}
 use Rattle.voice.specs.declared.Waiting.the-variants.{Prepared}
 use Rattle.voice.specs.Valid.{Tuned, Waiting-valid}
-use Rattle.packed.specs.Words.{signedOf, waitingFrom}
+use Rattle.signs.specs.Signs.{signedOf}
+use Rattle.packed.specs.Words.{waitingFrom}
 use Rattle.packed.proofs.Limits.{tuned, limited}
 
 -- ---- words

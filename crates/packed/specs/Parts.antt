@@ -5,7 +5,7 @@ use Rattle.voice.specs.declared.Filter.{Filter}
 use Rattle.voice.specs.declared.Kind.{Kind}
 use Rattle.voice.specs.declared.Kind.the-variants.{Announced, Asked}
 use Rattle.packed.specs.declared.write.FilterWords.{FilterWords}
-use Rattle.packed.specs.Words.{signedOf}
+use Rattle.signs.specs.Signs.{signedOf}
 
 abbrev pub filterIn : FilterWords → Filter
 filterIn r = record {

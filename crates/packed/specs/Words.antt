@@ -4,18 +4,14 @@ use mathlib.Core.Bool.{cond}
 use mathlib.Core.List.{List}
 use Prim.Native.Nat.{ℕ, _+_}
 use lib.Dec.{eqb}
-use lib.IntN.{ℤ, pos, _-ℤ_}
 use lib.ListN.{getD}
+use Rattle.signs.specs.Signs.{signedOf}
 use Rattle.integer.specs.declared.Value.{Value}
 use Rattle.voice.specs.declared.Filter.{Filter}
 use Rattle.voice.specs.declared.Waiting.{Waiting}
 use Rattle.voice.specs.declared.Kind.the-variants.{Announced, Asked}
 use Rattle.voice.specs.declared.Waiting.the-variants.{Idle, Prepared}
 use Rattle.voice.specs.declared.Head.{Head}
-
--- a signed number stands 2^31 higher
-abbrev pub signedOf : ℕ → ℤ
-signedOf w = pos w -ℤ pos 2147483648
 
 -- a filter is nine words from i on
 abbrev pub filterFrom : List ℕ → ℕ → Filter

@@ -2,7 +2,8 @@
 ghost use mathlib.Core.Path.{_≡_};
 ghost use Prim.Native.Nat.{_+_, _≤_, _<_};
 ghost use lib.ListN.{getD};
-ghost use Rattle.packed.specs.Words.{signedOf, filterFrom, waitingFrom};
+ghost use Rattle.signs.specs.Signs.{signedOf};
+ghost use Rattle.packed.specs.Words.{filterFrom, waitingFrom};
 use allpass::State;
 use integer::Value;
 use integer::arithmetic::minus;

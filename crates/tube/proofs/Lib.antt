@@ -1,4 +1,3 @@
 pub mod Tuned
 pub mod Sums
 pub mod Junctions
-pub mod Signs

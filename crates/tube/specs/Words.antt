@@ -4,17 +4,13 @@ use mathlib.Core.Bool.{cond}
 use mathlib.Core.List.{List}
 use Prim.Native.Nat.{ℕ, _+_}
 use lib.Dec.{eqb}
-use lib.IntN.{ℤ, pos, _-ℤ_}
 use lib.ListN.{getD}
+use Rattle.signs.specs.Signs.{signedOf}
 use Rattle.tube.specs.declared.filters.Filters.{Filters}
 use Rattle.tube.specs.declared.Waiting.{Waiting}
 use Rattle.tube.specs.declared.Waiting.the-variants.{Idle, Move}
 use Rattle.tube.specs.declared.Junction.{Junction}
 use Rattle.tube.specs.declared.memory.Four.{Four}
-
--- a signed number stands 2^31 higher
-abbrev pub signedOf : ℕ → ℤ
-signedOf w = pos w -ℤ pos 2147483648
 
 -- the filters are four words from i on: A1 and v1 over a, A1 and v1 over b
 abbrev pub filtersFrom : List ℕ → ℕ → Filters

@@ -1,8 +1,8 @@
 -- `packed::fits::are` meets its contract.
 use mathlib.Core.Path.{refl, sym, ap, _∙_}
 use Rattle.thiran.specs.declared.formula.Coefficients.{Coefficients}
-use Rattle.packed.specs.Words.{signedOf}
-use Rattle.packed.proofs.Signs.{small, shown}
+use Rattle.signs.specs.Signs.{signedOf}
+use Rattle.signs.proofs.Signs.{small, shown}
 use Rattle.packed.proofs.Tests.{same-coefficients}
 use Rattle.packed.proofs.fits.are.Statement.{statement}
 use Rattle.packed.proofs.fits.are.Tie as tie

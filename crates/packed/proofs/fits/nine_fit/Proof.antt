@@ -3,7 +3,7 @@
 use mathlib.Core.Path.{sym, _∙_}
 use mathlib.Core.Bool.{true≢false}
 use Rattle.voice.proofs.Tunes.{Tunes}
-use Rattle.packed.specs.Words.{signedOf}
+use Rattle.signs.specs.Signs.{signedOf}
 use Rattle.packed.proofs.Tests.{tuning-is, coefficients-small, most-small, filter-is}
 use borrow.Author.Needs.{needs}
 use Rattle.packed.proofs.fits.nine_fit.Statement.{statement}

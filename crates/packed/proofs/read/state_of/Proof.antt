@@ -1,7 +1,7 @@
 -- `packed::read::state_of` meets its contract.
 use native.Mathlib.Omega.{arith}
 use borrow.Author.Needs.{needs}
-use Rattle.packed.proofs.Signs.{read}
+use Rattle.signs.proofs.Signs.{read}
 use Rattle.packed.proofs.read.state_of.Statement.{statement}
 use Rattle.packed.proofs.read.state_of.Tie as tie
 

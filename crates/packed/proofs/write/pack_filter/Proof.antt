@@ -1,6 +1,6 @@
 -- `packed::write::pack_filter` meets its contract: the numbers of a tuned filter fit their words.
 use mathlib.Core.Path.{_∙_}
-use Rattle.packed.proofs.Signs.{small, shown}
+use Rattle.signs.proofs.Signs.{small, shown}
 use Rattle.packed.proofs.Filters.{a1-small, a2-small, a3-small, v1-small, v2-small, v3-small}
 use Rattle.packed.proofs.write.pack_filter.Statement.{statement}
 use Rattle.packed.proofs.write.pack_filter.Tie as tie

@@ -7,7 +7,7 @@ use mir.Syntax.{w64}
 use mir.Val.{toZ, ofZ}
 use Rattle.integer.specs.Parts.{up}
 use Rattle.integer.proofs.View.{read}
-use Rattle.packed.proofs.Signs.{above, under, back}
+use Rattle.signs.proofs.Signs.{above, under, back}
 use Rattle.packed.proofs.write.word_of.Statement.{statement}
 use Rattle.packed.proofs.write.word_of.Tie as tie
 

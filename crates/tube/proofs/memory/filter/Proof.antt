@@ -1,7 +1,7 @@
 -- `tube::memory::filter` meets its contract: two words.
 use native.Mathlib.Omega.{arith}
 use borrow.Author.Needs.{needs}
-use Rattle.tube.proofs.Signs.{read}
+use Rattle.signs.proofs.Signs.{read}
 use Rattle.tube.proofs.memory.filter.Statement.{statement}
 use Rattle.tube.proofs.memory.filter.Tie as tie
 

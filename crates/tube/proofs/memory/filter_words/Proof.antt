@@ -1,6 +1,6 @@
 -- `tube::memory::filter_words` meets its contract: the numbers of a filter are small.
 use mathlib.Core.Path.{_∙_}
-use Rattle.tube.proofs.Signs.{shown, small}
+use Rattle.signs.proofs.Signs.{shown, small}
 use Rattle.tube.proofs.Tuned.{a-small, b-small}
 use Rattle.tube.proofs.memory.filter_words.Statement.{statement}
 use Rattle.tube.proofs.memory.filter_words.Tie as tie

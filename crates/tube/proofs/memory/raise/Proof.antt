@@ -6,7 +6,7 @@ use mir.Syntax.{w64}
 use mir.Val.{toZ, ofZ}
 use Rattle.integer.specs.Parts.{up}
 use Rattle.integer.proofs.View.{read}
-use Rattle.tube.proofs.Signs.{above, under, back}
+use Rattle.signs.proofs.Signs.{above, under, back}
 use Rattle.tube.proofs.memory.raise.Statement.{statement}
 use Rattle.tube.proofs.memory.raise.Tie as tie
 

@@ -8,7 +8,7 @@ use mir.Val.{SFits, toZ, ofZ}
 use mir.Facts.{toZ-ofZ}
 use Rattle.integer.proofs.View.{vfit, +v, -v, absv, onev, abs-fits, Zs}
 use Rattle.integer.specs.Parts.{up}
-use Rattle.tube.specs.Words.{signedOf}
+use Rattle.signs.specs.Signs.{signedOf}
 
 pub fits : (w : ℕ) → w < 2 ^ 32 → SFits w64 (signedOf w)
 fits w h = vfit w64 (signedOf w) (omega (arith, -v (pos w) (pos 2147483648)))
