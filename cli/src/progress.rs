@@ -21,14 +21,19 @@ impl Progress {
             let _ = write!(io::stderr(), "\r{}", bar(self.done, self.total));
         }
     }
-}
 
-/// Clears the line.
-impl Drop for Progress {
-    fn drop(&mut self) {
+    /// Clears the line, and shows nothing more.
+    pub fn end(&mut self) {
         if self.shown {
             let _ = write!(io::stderr(), "\r\x1b[K");
         }
+        self.shown = false;
+    }
+}
+
+impl Drop for Progress {
+    fn drop(&mut self) {
+        self.end();
     }
 }
 

@@ -128,6 +128,9 @@ fn pictures_are_legible_and_have_every_mark() {
                 take.timeline.changes.iter().filter(|c| c.effect <= take.samples.len()).count()
             };
             assert_eq!(marks(&picture, "changes"), count(within), "{name}");
+            assert_eq!(marks(&picture, "plucked"), marks(&picture, "plucks"), "{name}");
+            assert_eq!(marks(&picture, "pitch"), takes.len(), "{name}");
+            assert_eq!(picture.matches(">pitch in force<").count(), takes.len());
             assert!(picture.contains(">time in ") && picture.contains(">level, full scale is 1<"));
             (drawn, dense) = (drawn + 1, dense + usize::from(marks(&picture, "changes") > 500));
         }
@@ -155,6 +158,24 @@ fn clicks_are_drawn() {
     let off =
         |take: &Take| take.distances.as_ref().unwrap().iter().map(|d| d.measured).max().unwrap();
     assert!(off(&takes[0]) > 1_000_000 && off(&takes[1]) <= 2);
+}
+
+/// A pitch that is held, a step to another and a slide: notes on the axis, a step for each change, and the names
+/// that have no room are counted.
+#[test]
+fn the_pitch_in_force_is_drawn() {
+    let text = b"advance 0\ntune A3\npluck 99\nwait 1s, jump E4\nwait 1s\nslide A3 over 50ms steps 20\nwait 1s";
+    let tune = Tune::of_text(Path::new("a.txt"), text.to_vec(), Instead::default()).unwrap();
+    let take = Take::of("a.txt", &tune, false).unwrap();
+    let picture = draw(&[take]).document();
+    legible(&picture, "a.txt");
+    for name in ["A3", "B3", "C4", "E4"] {
+        assert!(picture.contains(&format!(">{name}</text>")), "{name}");
+    }
+    assert!(picture.contains(">19 more notes without room for a name<"));
+    let curve = picture.lines().find(|line| attribute(line, "class") == Some("pitch")).unwrap();
+    let data = attribute(curve, "d").unwrap();
+    assert_eq!((data.matches('V').count(), data.matches('H').count()), (21, 22));
 }
 
 #[test]

@@ -54,6 +54,7 @@ impl Take {
         let meter = Meter::new(self.tune.rate);
         let mut desk = Desk { meter, source, recording, progress: Progress::new(length as usize) };
         self.tune.play(&mut desk, self.ring)?;
+        desk.progress.end();
         Ok(desk)
     }
 

@@ -1,4 +1,4 @@
-//! Axes: where a step, a level and a distance stand, and the numbers beside them.
+//! Axes: where a level stands, and the numbers beside it.
 
 use super::svg::{Anchor, Svg, BLACK, GREY, SMALL};
 use crate::take::FULL_SCALE;
@@ -7,17 +7,9 @@ pub const WIDTH: f64 = 1_000.0;
 pub const LEFT: f64 = 100.0;
 pub const RIGHT: f64 = WIDTH - 92.0;
 pub const TICK: f64 = 5.0;
-/// At most so many numbers stand along the time.
-const MOST_TICKS: f64 = 12.0;
-
-/// The time of a take, from its first sample on.
-pub struct Time {
-    pub steps: usize,
-    pub rate: u32,
-}
 
 /// The largest of 1, 2, 5, 10, .. and of their tenths that goes into a length at most so many times.
-fn nice_step(length: f64, most: f64) -> f64 {
+pub fn nice_step(length: f64, most: f64) -> f64 {
     let least = length / most;
     let power = 10f64.powf(least.log10().floor());
     [1.0, 2.0, 5.0]
@@ -25,39 +17,6 @@ fn nice_step(length: f64, most: f64) -> f64 {
         .map(|factor| factor * power)
         .find(|step| *step >= least)
         .unwrap_or(10.0 * power)
-}
-
-impl Time {
-    /// Where a step stands.
-    pub fn x(&self, step: usize) -> f64 {
-        LEFT + (RIGHT - LEFT) * step as f64 / self.steps.max(1) as f64
-    }
-
-    pub fn pixels_a_sample(&self) -> f64 {
-        (RIGHT - LEFT) / self.steps.max(1) as f64
-    }
-
-    /// The axis below a panel; gives where it ends.
-    pub fn draw(&self, svg: &mut Svg, top: f64, bottom: f64) -> f64 {
-        let seconds = self.steps as f64 / f64::from(self.rate);
-        let (unit, length) =
-            if seconds < 0.1 { ("milliseconds", 1_000.0 * seconds) } else { ("seconds", seconds) };
-        let step = nice_step(length.max(1e-9), MOST_TICKS);
-        let places = (-step.log10().floor()).max(0.0) as usize;
-        let (mut ticks, mut grid) = (String::new(), String::new());
-        for index in 0..=(length / step + 1e-9) as usize {
-            let value = index as f64 * step;
-            let x = LEFT + (RIGHT - LEFT) * value / length.max(1e-9);
-            ticks += &format!("M{x:.1} {bottom:.1}v{TICK}");
-            grid += &format!("M{x:.1} {top:.1}V{bottom:.1}");
-            svg.text((x, bottom + TICK + SMALL), Anchor::Middle, &format!("{value:.places$}"));
-        }
-        svg.path("grid", &format!("{GREY} stroke-width=\"0.5\""), &grid);
-        svg.path("ticks", BLACK, &ticks);
-        let under = bottom + TICK + 2.4 * SMALL;
-        svg.text(((LEFT + RIGHT) / 2.0, under), Anchor::Middle, &format!("time in {unit}"));
-        under + SMALL
-    }
 }
 
 /// The level of a waveform, as a part of full scale: the least and the greatest, and the step of numbers.
@@ -133,7 +92,7 @@ mod tests {
     #[test]
     fn steps_are_nice() {
         for (length, step) in [(3.5, 0.5), (14.4, 2.0), (124.2, 20.0), (1.0, 0.1), (0.9, 0.1)] {
-            assert!((nice_step(length, MOST_TICKS) - step).abs() < 1e-12, "{length}");
+            assert!((nice_step(length, 12.0) - step).abs() < 1e-12, "{length}");
         }
     }
 }

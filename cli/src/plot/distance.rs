@@ -1,7 +1,8 @@
 //! The distance of each sample from the ideal filter's, measured and proved, by its logarithm.
 
-use super::axes::{Time, LEFT, RIGHT};
+use super::axes::{LEFT, RIGHT};
 use super::svg::{Anchor, Svg, BLACK};
+use super::time::Time;
 use super::units::Distances;
 use super::Take;
 use crate::ideal::Distance;

@@ -41,9 +41,15 @@ fn held(timeline: &Timeline) -> Vec<Span> {
 }
 
 /// Names for the longest stretches first, each at its beginning, as far as they do not run into another
-/// or far past their own stretch.
-pub fn placed(timeline: &Timeline, rate: u32, x: impl Fn(usize) -> f64, right: f64) -> Vec<Label> {
+/// or far past their own stretch; and how many stretches have no name.
+pub fn placed(
+    timeline: &Timeline,
+    rate: u32,
+    x: impl Fn(usize) -> f64,
+    right: f64,
+) -> (Vec<Label>, usize) {
     let mut spans = held(timeline);
+    let count = spans.len();
     spans.sort_by_key(|span| (span.from as i64 - span.to as i64, span.from));
     let mut labels: Vec<Label> = Vec::new();
     for span in spans {
@@ -61,7 +67,8 @@ pub fn placed(timeline: &Timeline, rate: u32, x: impl Fn(usize) -> f64, right: f
             labels.push(Label { x: from, row, words });
         }
     }
-    labels
+    let without = count - labels.len();
+    (labels, without)
 }
 
 #[cfg(test)]

@@ -1,9 +1,11 @@
 //! Pictures of takes: the waveform with its notes, plucks and changes, and what the changes click.
 
 mod axes;
+mod curve;
 mod distance;
 mod labels;
 mod svg;
+mod time;
 mod units;
 mod waveform;
 
@@ -77,7 +79,10 @@ fn description(take: &Take) -> String {
         let (measured, proved) = (in_words(most.measured), in_words(most.proved));
         format!(" Off the ideal filter by at most {measured} as measured, {proved} as proved.")
     });
-    format!("{}: the waveform of {length}, with {marks}.{clicks}", take.title)
+    format!(
+        "{}: the pitch in force and the waveform of {length}, with {marks}.{clicks}",
+        take.title
+    )
 }
 
 /// The takes one below the other, with one scale for all.

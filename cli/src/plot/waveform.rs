@@ -1,9 +1,12 @@
 //! The waveform of a take, with the notes, plucks and changes above it.
 
-use super::axes::{Level, Levels, Time, LEFT, RIGHT};
+use super::axes::{Level, Levels, LEFT, RIGHT};
+use super::curve;
 use super::labels::placed;
 use super::svg::{Anchor, Svg, BLACK, FILLED, SMALL};
+use super::time::Time;
 use super::Take;
+use crate::number::counted;
 
 const HEIGHT: f64 = 220.0;
 const ROW: f64 = 17.0;
@@ -64,13 +67,18 @@ pub fn draw(svg: &mut Svg, top: f64, take: &Take, levels: Levels) -> f64 {
         svg.text((LEFT - 8.0, row(index) + 0.36 * SMALL), Anchor::End, words);
     };
     name(svg, 0, "note");
-    let labels = placed(&take.timeline, take.rate, |step| time.x(step), RIGHT);
-    let rows = 1 + labels.iter().map(|label| label.row).max().unwrap_or(0);
+    let (labels, without) = placed(&take.timeline, take.rate, |step| time.x(step), RIGHT);
+    let mut rows = 1 + labels.iter().map(|label| label.row).max().unwrap_or(0);
     for label in labels {
         let y = row(label.row) + 0.36 * SMALL;
         svg.text((label.x + 1.0, y), Anchor::Start, &label.words);
     }
-    let box_top = top + ROW * (rows + 2) as f64 + 10.0;
+    if without > 0 {
+        let words = format!("{} without room for a name", counted(without as u64, "more note"));
+        svg.text((LEFT + 1.0, row(rows) + 0.36 * SMALL), Anchor::Start, &words);
+        rows += 1;
+    }
+    let box_top = curve::draw(svg, top + ROW * (rows + 2) as f64 + 10.0, take, &time) + 12.0;
     let level = Level { levels, top: box_top, bottom: box_top + HEIGHT };
 
     let within = |step: &usize| *step <= take.samples.len();
