@@ -8,7 +8,14 @@
    calls in several threads do not disturb each other.
 
    A routine that can refuse returns 0, or the number of the first test that was not met, and then leaves 0 in what
-   it is lent for its results, but where it says otherwise. docs/PERFORMANCE.md tells how much stack a run takes. */
+   it is lent for its results, but where it says otherwise. docs/PERFORMANCE.md tells how much stack a run takes.
+
+   The shared library is libjivaszte.so.N, where N is the first number of the version. A program that was built over one
+   libjivaszte.so.N runs over every later one with the same N: each routine declared here keeps its name, its parameters
+   and what it returns, the routines behind inline functions too; each struct keeps its size and its alignment; each
+   number keeps its meaning. Routines and numbers may be added. What breaks one of these raises N. The words inside a
+   jivaszte_voice or a jivaszte_junction are no part of this promise: one that another version left in a file or in
+   memory is to be stored as bytes or opened anew. */
 #ifndef JIVASZTE_H
 #define JIVASZTE_H
 
