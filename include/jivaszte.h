@@ -2,10 +2,10 @@
    where `cc host.c $(pkg-config --cflags --libs jivaszte)` finds it.
 
    Every routine is safe for every number and every byte, but that the calls on a jivaszte_voice and a jivaszte_junction
-   ask for one that was opened, or loaded. Of its pointers a caller owes what C always asks: none is
-   null, not even with length 0; each refers to as many values as its length or its type says; and what is written
-   overlaps nothing else that is passed. No routine keeps a pointer, allocates, or touches a variable of its own:
-   calls in several threads do not disturb each other.
+   ask for one that was opened, or loaded, and those on a jivaszte_instrument for one that was reset. Of its pointers a
+   caller owes what C always asks: none is null, not even with length 0; each refers to as many values as its length or its
+   type says; and what is written overlaps nothing else that is passed. No routine keeps a pointer, allocates, or touches a
+   variable of its own: calls in several threads do not disturb each other.
 
    A routine that can refuse returns 0, or the number of the first test that was not met, and then leaves 0 in what
    it is lent for its results, but where it says otherwise. docs/PERFORMANCE.md tells how much stack a run takes.
@@ -58,6 +58,7 @@ enum {
     JIVASZTE_NOTHING_ASKED = 21,
     JIVASZTE_STORED_LENGTH = 22,
     JIVASZTE_STORED_PART = 23,
+    JIVASZTE_STRING = 24,
     JIVASZTE_AREA = 25,
     JIVASZTE_HEADERS = 28,
     JIVASZTE_ALONE = 29,
@@ -96,6 +97,8 @@ static inline const char *jivaszte_words(uint32_t number)
         return "the stored bytes are too few or too many";
     case 23:
         return "a part of the stored voice is outside its limits";
+    case 24:
+        return "the string number is above 5";
     case 25:
         return "an area is outside 1 to 65535";
     case 28:
@@ -332,6 +335,125 @@ static inline uint32_t jivaszte_voice_load(jivaszte_voice *voice, const uint8_t 
 /* The length, the delay and the loss of a stored voice, for a panel that shows no more. Refuses by 22, 23 as loading
    does, and then gives those of the refusal voice: 1, 4,096 and 0. */
 uint32_t jivaszte_panel(const uint8_t *bytes, size_t length, uint32_t *string_length, uint32_t *delay, uint32_t *loss);
+/* Six strings in one instrument that the host keeps, 51,336 bytes: each string is a voice with calls of its own, and a mix
+   is a block of all six, whose one input goes to each of them and whose outputs are their clipped sums. A host owes three
+   things: an instrument is reset before anything else is called on it, nothing but these routines writes to it, and one
+   thread at a time uses it. It may be copied whole. */
+#define JIVASZTE_STRINGS 6
+typedef struct {
+    uint32_t heads[JIVASZTE_STRINGS][JIVASZTE_HEAD];
+    int32_t lines[JIVASZTE_STRINGS][JIVASZTE_LINE];
+} jivaszte_instrument;
+
+/* The routines behind the calls on an instrument, over its two fields. */
+void jivaszte_strings_reset(uint32_t (*heads)[JIVASZTE_HEAD], int32_t (*lines)[JIVASZTE_LINE]);
+uint32_t jivaszte_strings_open(uint32_t (*heads)[JIVASZTE_HEAD], int32_t (*lines)[JIVASZTE_LINE], uint32_t string,
+                               uint32_t order, uint32_t length, uint32_t delay, uint32_t loss, uint32_t advance);
+uint32_t jivaszte_strings_loss(uint32_t (*heads)[JIVASZTE_HEAD], uint32_t string, uint32_t loss);
+uint32_t jivaszte_strings_pluck(uint32_t (*heads)[JIVASZTE_HEAD], uint32_t string, uint32_t amplitude, uint32_t count,
+                                uint32_t seed);
+uint32_t jivaszte_strings_announce(uint32_t (*heads)[JIVASZTE_HEAD], uint32_t string, uint32_t order, uint32_t length,
+                                   uint32_t delay);
+uint32_t jivaszte_strings_instant(uint32_t (*heads)[JIVASZTE_HEAD], const int32_t (*lines)[JIVASZTE_LINE], uint32_t string,
+                                  uint32_t order, uint32_t length, uint32_t delay, uint32_t *count);
+uint32_t jivaszte_strings_ask(uint32_t (*heads)[JIVASZTE_HEAD], uint32_t string, uint32_t order, uint32_t length,
+                              uint32_t delay);
+uint32_t jivaszte_strings_commit(uint32_t (*heads)[JIVASZTE_HEAD], uint32_t string);
+uint32_t jivaszte_strings_withdraw(uint32_t (*heads)[JIVASZTE_HEAD], uint32_t string);
+uint32_t jivaszte_strings_mix(uint32_t (*heads)[JIVASZTE_HEAD], int32_t (*lines)[JIVASZTE_LINE], const int32_t *input,
+                              size_t samples, int32_t *output, size_t room);
+uint32_t jivaszte_strings_play(uint32_t (*heads)[JIVASZTE_HEAD], int32_t (*lines)[JIVASZTE_LINE], int32_t *output,
+                               size_t count);
+uint32_t jivaszte_strings_store(const uint32_t (*heads)[JIVASZTE_HEAD], const int32_t (*lines)[JIVASZTE_LINE],
+                                uint32_t string, uint8_t *bytes, size_t room, size_t *length);
+uint32_t jivaszte_strings_load(uint32_t (*heads)[JIVASZTE_HEAD], int32_t (*lines)[JIVASZTE_LINE], uint32_t string,
+                               const uint8_t *bytes, size_t length);
+
+/* Makes six strings of whatever the memory held: each holds the refusal voice, as after an opening that was refused. */
+static inline void jivaszte_instrument_reset(jivaszte_instrument *instrument)
+{
+    jivaszte_strings_reset(instrument->heads, instrument->lines);
+}
+
+/* The calls on one string, 0 to 5. Each refuses first by 24 where there is no such string, and then changes nothing; else
+   it is the call of the same name on a voice, with that call's numbers. A refused opening leaves the refusal voice on its
+   string. No call on one string alters another. */
+static inline uint32_t jivaszte_instrument_open(jivaszte_instrument *instrument, uint32_t string, uint32_t order,
+                                                uint32_t length, uint32_t delay, uint32_t loss, uint32_t advance)
+{
+    return jivaszte_strings_open(instrument->heads, instrument->lines, string, order, length, delay, loss, advance);
+}
+
+static inline uint32_t jivaszte_instrument_loss(jivaszte_instrument *instrument, uint32_t string, uint32_t loss)
+{
+    return jivaszte_strings_loss(instrument->heads, string, loss);
+}
+
+static inline uint32_t jivaszte_instrument_pluck(jivaszte_instrument *instrument, uint32_t string, uint32_t amplitude,
+                                                 uint32_t count, uint32_t seed)
+{
+    return jivaszte_strings_pluck(instrument->heads, string, amplitude, count, seed);
+}
+
+static inline uint32_t jivaszte_instrument_announce(jivaszte_instrument *instrument, uint32_t string, uint32_t order,
+                                                    uint32_t length, uint32_t delay)
+{
+    return jivaszte_strings_announce(instrument->heads, string, order, length, delay);
+}
+
+/* count is 0 where it is refused. */
+static inline uint32_t jivaszte_instrument_instant(jivaszte_instrument *instrument, uint32_t string, uint32_t order,
+                                                   uint32_t length, uint32_t delay, uint32_t *count)
+{
+    return jivaszte_strings_instant(instrument->heads, (const int32_t(*)[JIVASZTE_LINE])instrument->lines, string, order,
+                                    length, delay, count);
+}
+
+static inline uint32_t jivaszte_instrument_ask(jivaszte_instrument *instrument, uint32_t string, uint32_t order,
+                                               uint32_t length, uint32_t delay)
+{
+    return jivaszte_strings_ask(instrument->heads, string, order, length, delay);
+}
+
+static inline uint32_t jivaszte_instrument_commit(jivaszte_instrument *instrument, uint32_t string)
+{
+    return jivaszte_strings_commit(instrument->heads, string);
+}
+
+static inline uint32_t jivaszte_instrument_withdraw(jivaszte_instrument *instrument, uint32_t string)
+{
+    return jivaszte_strings_withdraw(instrument->heads, string);
+}
+
+/* A block of all six: an output for each input, samples of them, into a room as long. Refuses by 9, 10, of the whole
+   input before anything is done; then no string moves and the output is untouched. */
+static inline uint32_t jivaszte_instrument_mix(jivaszte_instrument *instrument, const int32_t *input, size_t samples,
+                                               int32_t *output, size_t room)
+{
+    return jivaszte_strings_mix(instrument->heads, instrument->lines, input, samples, output, room);
+}
+
+/* A mix of zeros, count of them, for hosts that feed nothing: never refused. */
+static inline uint32_t jivaszte_instrument_play(jivaszte_instrument *instrument, int32_t *output, size_t count)
+{
+    return jivaszte_strings_play(instrument->heads, instrument->lines, output, count);
+}
+
+/* Stores a string, 0 to 5, as jivaszte_voice_store stores a voice; the bytes are those of that voice, which
+   jivaszte_voice_load takes too. Refuses by 24, 18, and then length is 0, and no byte is touched. */
+static inline uint32_t jivaszte_instrument_store(const jivaszte_instrument *instrument, uint32_t string, uint8_t *bytes,
+                                                 size_t room, size_t *length)
+{
+    return jivaszte_strings_store(instrument->heads, instrument->lines, string, bytes, room, length);
+}
+
+/* Loads a stored voice into a string, as jivaszte_voice_load loads one. Refuses by 24, and then changes nothing, or by 22,
+   23, and then leaves the refusal voice on the string. */
+static inline uint32_t jivaszte_instrument_load(jivaszte_instrument *instrument, uint32_t string, const uint8_t *bytes,
+                                                size_t length)
+{
+    return jivaszte_strings_load(instrument->heads, instrument->lines, string, bytes, length);
+}
 
 /* Plays a score on a voice of its own, whose order its changes keep. Refuses by 14, those of the opening (1, 2, 3, 5),
    and at a record by 14, 15, 16, 2, 3, 6, 7, 8. place is the index of the record that was refused, the count of records

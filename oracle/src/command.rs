@@ -50,14 +50,31 @@ pub enum Command {
     Load { bytes: Vec<u8> },
     Panel { bytes: Vec<u8> },
     Merge { places: usize, first: Vec<u8>, second: Vec<u8> },
+    String { string: u32, command: Box<Command> },
+    Mix { input: Vec<i32>, places: usize },
     Help,
 }
 
-/// `block OUT X1 X2 ..`
-fn block(words: &[&[u8]]) -> Option<Command> {
+/// `block OUT X1 X2 ..` and `mix OUT X1 X2 ..`
+fn block(words: &[&[u8]]) -> Option<(Vec<i32>, usize)> {
     let (first, rest) = words.split_first()?;
     let (places, input) = (places(first, BLOCK_LIMIT)?, samples(rest)?);
-    Some(Command::Call(Call::Block { input, places }))
+    Some((input, places))
+}
+
+/// `string K CALL ..`: a call of a voice but block, "`string K state`, `string K line N`, where K above 5 is an error".
+fn string(words: &[&[u8]]) -> Option<Command> {
+    let [string, name, rest @ ..] = words else { return None };
+    let (string, command) = (unsigned(string)?, command(name, rest)?);
+    let good = match &command {
+        Command::Call(Call::Block { .. }) => false,
+        Command::Open { .. } | Command::Call(_) | Command::Store { .. } | Command::Load { .. } => {
+            true
+        }
+        Command::State | Command::Line { .. } => string <= 5,
+        _ => false,
+    };
+    good.then_some(Command::String { string, command: Box::new(command) })
 }
 
 /// `wavwrite RATE ROOM X1 X2 ..`
@@ -120,7 +137,9 @@ fn command(name: &[u8], rest: &[&[u8]]) -> Option<Command> {
         b"ask" => tuning(rest).map(|to| Command::Call(Call::Asked { to })),
         b"commit" => rest.is_empty().then_some(Command::Call(Call::Commit)),
         b"withdraw" => rest.is_empty().then_some(Command::Call(Call::Withdraw)),
-        b"block" => block(rest),
+        b"block" => block(rest).map(|(input, places)| Command::Call(Call::Block { input, places })),
+        b"mix" => block(rest).map(|(input, places)| Command::Mix { input, places }),
+        b"string" => string(rest),
         b"coefficients" => {
             numbers(rest).map(|[order, delay]| Command::Coefficients { order, delay })
         }

@@ -36,6 +36,8 @@ fn calls() -> Vec<(&'static str, String)> {
         ("load", "B1 B2 .."),
         ("panel", "B1 B2 .."),
         ("merge", "ROOM B1 .. / C1 .. (ROOM at most MERGE)"),
+        ("string", "K CALL .. (a call of a voice but block)"),
+        ("mix", "OUT X1 X2 .. (at most BLOCK each)"),
         ("help", "nothing"),
     ];
     let limits = [

@@ -5,6 +5,7 @@
 
 pub mod advance;
 pub mod allpass;
+pub mod answers;
 pub mod call;
 pub mod cases;
 pub mod change;
@@ -15,6 +16,7 @@ pub mod console;
 pub mod expected;
 pub mod figures;
 pub mod gather;
+pub mod instrument;
 pub mod junction;
 pub mod merge;
 pub mod natural;

@@ -49,6 +49,8 @@ pub enum Refusal {
     StoredLength = 22,
     /// Document 02: "23 a part outside its limits or not in this form"
     StoredPart = 23,
+    /// Document 02: "24 string number above 5"
+    String = 24,
     /// Document 02: "25 an area outside its limits"
     Area = 25,
     /// Document 02: "28 the first 8 bytes differ"

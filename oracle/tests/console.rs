@@ -121,9 +121,9 @@ fn calls_are_listed() {
     assert!(
         listed.starts_with("help open takes N L D G NA; loss takes G; pluck takes A COUNT SEED; ")
     );
-    let last = "; merge takes ROOM B1 .. / C1 .. (ROOM at most 32768); help takes nothing\n";
+    let last = "; mix takes OUT X1 X2 .. (at most 4096 each); help takes nothing\n";
     assert!(listed.ends_with(last));
-    assert_eq!(listed.split("; ").count(), 29);
+    assert_eq!(listed.split("; ").count(), 31);
 }
 
 #[test]
@@ -171,6 +171,32 @@ fn a_merge() {
     assert_eq!(answers(b"merge 1 00 / 01"), "merge 28 0 4d\n");
     let wrong = "error 1 merge takes ROOM B1 .. / C1 .. (ROOM at most 32768)\n";
     for line in ["merge 1", "merge 1 00/ 01", "merge 1 / /", "merge 32769 /", "merge /"] {
+        assert_eq!(answers(line.as_bytes()), wrong);
+    }
+}
+
+#[test]
+fn six_strings() {
+    assert_answers(&[
+        ("string 5 open 1 1 4096 0 0", "string 5 open 0"),
+        ("string 005 open 0 1 4096 0 0", "string 5 open 1"),
+        ("string 6 open 0 0 0 0 0", "string 6 open 24"),
+        ("string 6 instant 0 0 0", "string 6 instant 24 0"),
+        ("string 6 store 2", "string 6 store 24 0 4d 4d"),
+        ("string 6 load", "string 6 load 24"),
+        ("string 2 load", "string 2 load 22"),
+        ("string 2 store 1", "string 2 store 0 1 00"),
+        ("mix 3 5 6 2000000", "mix 0 0 0 30"),
+        ("mix 2 8388608", "mix 9 77 77"),
+        ("mix 1 8388608", "mix 10 77"),
+        ("mix 3 0 0 0", "mix 0 36 8388607 0"),
+        ("string 2 line 3", "string 2 line 0 0 0"),
+        ("state", "state 1 1 4096 0 0 0 0 0 0 0 0 0 0 0 0 0 0 0 0 0"),
+    ]);
+    let wrong = "error 1 string takes K CALL .. (a call of a voice but block)\n";
+    for line in
+        ["string", "string 6 state", "string 6 line 1", "string 0 block 1 0", "string 6 loss"]
+    {
         assert_eq!(answers(line.as_bytes()), wrong);
     }
 }

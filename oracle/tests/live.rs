@@ -1,7 +1,7 @@
 //! Live equals announced (document 02, L9), on random lists of calls.
 
 use oracle::call::Call;
-use oracle::cases::{lists_of, texts::text};
+use oracle::cases::{shares::lists_of, texts::text};
 use oracle::refusal::number;
 use oracle::tuning::Tuning;
 use oracle::voice::Voice;

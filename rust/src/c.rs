@@ -117,6 +117,79 @@ extern "C" {
         delay: &mut u32,
         loss: &mut u32,
     ) -> u32;
+    pub fn jivaszte_strings_reset(heads: &mut [[u32; 27]; 6], lines: &mut [[i32; 2112]; 6]);
+    pub fn jivaszte_strings_open(
+        heads: &mut [[u32; 27]; 6],
+        lines: &mut [[i32; 2112]; 6],
+        string: u32,
+        order: u32,
+        length: u32,
+        delay: u32,
+        loss: u32,
+        advance: u32,
+    ) -> u32;
+    pub fn jivaszte_strings_loss(heads: &mut [[u32; 27]; 6], string: u32, loss: u32) -> u32;
+    pub fn jivaszte_strings_pluck(
+        heads: &mut [[u32; 27]; 6],
+        string: u32,
+        amplitude: u32,
+        count: u32,
+        seed: u32,
+    ) -> u32;
+    pub fn jivaszte_strings_announce(
+        heads: &mut [[u32; 27]; 6],
+        string: u32,
+        order: u32,
+        length: u32,
+        delay: u32,
+    ) -> u32;
+    pub fn jivaszte_strings_instant(
+        heads: &mut [[u32; 27]; 6],
+        lines: &[[i32; 2112]; 6],
+        string: u32,
+        order: u32,
+        length: u32,
+        delay: u32,
+        count: &mut u32,
+    ) -> u32;
+    pub fn jivaszte_strings_ask(
+        heads: &mut [[u32; 27]; 6],
+        string: u32,
+        order: u32,
+        length: u32,
+        delay: u32,
+    ) -> u32;
+    pub fn jivaszte_strings_commit(heads: &mut [[u32; 27]; 6], string: u32) -> u32;
+    pub fn jivaszte_strings_withdraw(heads: &mut [[u32; 27]; 6], string: u32) -> u32;
+    pub fn jivaszte_strings_mix(
+        heads: &mut [[u32; 27]; 6],
+        lines: &mut [[i32; 2112]; 6],
+        input: *const i32,
+        samples: usize,
+        output: *mut i32,
+        room: usize,
+    ) -> u32;
+    pub fn jivaszte_strings_play(
+        heads: &mut [[u32; 27]; 6],
+        lines: &mut [[i32; 2112]; 6],
+        output: *mut i32,
+        count: usize,
+    ) -> u32;
+    pub fn jivaszte_strings_store(
+        heads: &[[u32; 27]; 6],
+        lines: &[[i32; 2112]; 6],
+        string: u32,
+        bytes: *mut u8,
+        room: usize,
+        length: &mut usize,
+    ) -> u32;
+    pub fn jivaszte_strings_load(
+        heads: &mut [[u32; 27]; 6],
+        lines: &mut [[i32; 2112]; 6],
+        string: u32,
+        bytes: *const u8,
+        length: usize,
+    ) -> u32;
     pub fn jivaszte_run(
         score: *const u8,
         length: usize,

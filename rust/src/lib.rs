@@ -2,7 +2,7 @@
 //!
 //! What the library refuses comes back as a [`Refusal`], which has the number and the words. A [`Voice`] is
 //! the caller's own memory; the library keeps nothing, and no call allocates but [`wav_file`],
-//! [`Call::list`] and [`Voice::to_bytes`].
+//! [`Call::list`], [`Voice::to_bytes`] and [`Instrument::to_bytes`].
 //!
 //! ```
 //! use jivaszte::{note, Refusal};
@@ -13,6 +13,7 @@
 
 mod c;
 mod filter;
+mod instrument;
 mod junction;
 mod list;
 mod refusal;
@@ -22,6 +23,7 @@ mod voice;
 mod wav;
 
 pub use filter::{coefficients, draw, effective_length, least_advance, note, ORDERS};
+pub use instrument::{Instrument, STRINGS};
 pub use junction::Junction;
 pub use list::{perform, Call, Opening, Performed};
 pub use refusal::Refusal;

@@ -70,6 +70,7 @@ refusals! {
     21 NothingAsked "no asked change waits"
     22 StoredLength "the stored bytes are too few or too many"
     23 StoredPart "a part of the stored voice is outside its limits"
+    24 String "the string number is above 5"
     25 Area "an area is outside 1 to 65535"
     28 Headers "the first 8 bytes of the scores differ"
     29 Alone "one of the scores does not play to its end alone"

@@ -5,6 +5,7 @@ ghost use lib.ListN.{length};
 ghost use Rattle.voice.specs.Valid.{Valid};
 ghost use Rattle.tube.specs.Valid.{Valid as Joined};
 ghost use Rattle.tube.specs.Words.{fromWords};
+ghost use Rattle.strings.specs.Rows.{Voices};
 use crate::kept::Kept;
 use crate::kept::ROOM;
 use crate::kept::rest;
@@ -28,31 +29,49 @@ fn one(
     line: &mut [i32; 2112],
     head: Head,
     junction: &mut [u32; 16],
+    heads: &mut [[u32; 27]; 6],
+    lines: &mut [[i32; 2112]; 6],
     buffer: &mut [u8; 4096],
     at: usize,
     s: &[u8],
     index: u64,
     long: bool,
 ) -> Turn
-    requires { ⌜ Valid head (now line) × Joined (fromWords (now junction)) ⌝ }
-    ensures { λ r. ⌜ Valid (r .head) (now (line .exit)) × Joined (fromWords (now (junction .exit))) ⌝ }
+    requires { ⌜ Valid head (now line) × Joined (fromWords (now junction))
+        × Voices (now heads) (now lines) ⌝ }
+    ensures { λ r. ⌜ Valid (r .head) (now (line .exit)) × Joined (fromWords (now (junction .exit)))
+        × Voices (now (heads .exit)) (now (lines .exit)) ⌝ }
 {
     if long {
         return Turn { head: head, at: at };
     }
-    answered(line, head, junction, buffer, at, bare(s), index)
+    answered(
+        line,
+        head,
+        junction,
+        heads,
+        lines,
+        buffer,
+        at,
+        bare(s),
+        index,
+    )
 }
 
 // Answers each line of a text that a line feed ends, as long as standard output takes the answers.
 fn whole(
     line: &mut [i32; 2112],
     junction: &mut [u32; 16],
+    heads: &mut [[u32; 27]; 6],
+    lines: &mut [[i32; 2112]; 6],
     k: Kept,
     buffer: &mut [u8; 4096],
     s: &[u8],
 ) -> Kept
-    requires { ⌜ Valid (k .head) (now line) × Joined (fromWords (now junction)) ⌝ }
+    requires { ⌜ Valid (k .head) (now line) × Joined (fromWords (now junction))
+        × Voices (now heads) (now lines) ⌝ }
     ensures { λ r. ⌜ Valid (r .head) (now (line .exit)) × Joined (fromWords (now (junction .exit)))
+        × Voices (now (heads .exit)) (now (lines .exit))
         × (r .held ≤ length (now (s .entry))) ⌝ }
 {
     let mut head = k.head;
@@ -66,7 +85,18 @@ fn whole(
             break;
         }
         let u = &t[e + 1..];
-        let r = one(line, head, junction, buffer, at, &t[..e], index, long);
+        let r = one(
+            line,
+            head,
+            junction,
+            heads,
+            lines,
+            buffer,
+            at,
+            &t[..e],
+            index,
+            long,
+        );
         head = r.head;
         at = r.at;
         index = next(index);
@@ -86,17 +116,21 @@ fn whole(
 pub fn came(
     line: &mut [i32; 2112],
     junction: &mut [u32; 16],
+    heads: &mut [[u32; 27]; 6],
+    lines: &mut [[i32; 2112]; 6],
     k: Kept,
     buffer: &mut [u8; 4096],
     room: &mut [u8; ROOM],
     held: usize,
 ) -> Kept
-    requires { ⌜ Valid (k .head) (now line) × Joined (fromWords (now junction)) × (held ≤ 1048577) ⌝ }
+    requires { ⌜ Valid (k .head) (now line) × Joined (fromWords (now junction))
+        × Voices (now heads) (now lines) × (held ≤ 1048577) ⌝ }
     ensures { λ r. ⌜ Valid (r .head) (now (line .exit)) × Joined (fromWords (now (junction .exit)))
+        × Voices (now (heads .exit)) (now (lines .exit))
         × (r .held ≤ 1048577) ⌝ }
 {
     let s: &[u8] = room;
-    let d = whole(line, junction, k, buffer, &s[..held]);
+    let d = whole(line, junction, heads, lines, k, buffer, &s[..held]);
     let n = rest(room, held, d.held, d.long);
     let h = d.head;
     let w = Kept {

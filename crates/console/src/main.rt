@@ -1,5 +1,5 @@
-// The console: answers each line of standard input by a line, as it comes, by calls on one voice and one
-// junction.
+// The console: answers each line of standard input by a line, as it comes, by calls on one voice, one
+// junction and six strings.
 // A read or a write that failed is said on standard error, and ends it.
 ghost use mathlib.Core.Path.{_≡_};
 ghost use Prim.Native.Nat.{_≤_};
@@ -7,11 +7,14 @@ ghost use lib.ListN.{length};
 ghost use Rattle.voice.specs.Valid.{Valid};
 ghost use Rattle.tube.specs.Valid.{Valid as Joined};
 ghost use Rattle.tube.specs.Words.{fromWords};
+ghost use Rattle.strings.specs.Rows.{Voices};
 
 mod calls;
+mod instruments;
 mod kept;
 mod lines;
 mod merges;
+mod rows;
 mod run;
 mod shown;
 mod start;
@@ -42,18 +45,31 @@ fn line_room() -> [u8; ROOM]
 fn last(
     line: &mut [i32; 2112],
     junction: &mut [u32; 16],
+    heads: &mut [[u32; 27]; 6],
+    lines: &mut [[i32; 2112]; 6],
     k: Kept,
     buffer: &mut [u8; 4096],
     room: &[u8; ROOM],
 ) -> usize
-    requires { ⌜ Valid (k .head) (now line) × Joined (fromWords (now junction)) × (k .held ≤ 1048577) ⌝ }
+    requires { ⌜ Valid (k .head) (now line) × Joined (fromWords (now junction))
+        × Voices (now heads) (now lines) × (k .held ≤ 1048577) ⌝ }
 {
     if k.long {
         return k.at;
     }
     let s: &[u8] = room;
     let held = k.held;
-    let r = answered(line, k.head, junction, buffer, k.at, &s[..held], k.index);
+    let r = answered(
+        line,
+        k.head,
+        junction,
+        heads,
+        lines,
+        buffer,
+        k.at,
+        &s[..held],
+        k.index,
+    );
     r.at
 }
 
@@ -68,18 +84,21 @@ fn complain(at: usize) {
 fn finish(
     line: &mut [i32; 2112],
     junction: &mut [u32; 16],
+    heads: &mut [[u32; 27]; 6],
+    lines: &mut [[i32; 2112]; 6],
     k: Kept,
     buffer: &mut [u8; 4096],
     room: &[u8; ROOM],
     failed: bool,
 )
-    requires { ⌜ Valid (k .head) (now line) × Joined (fromWords (now junction)) × (k .held ≤ 1048577) ⌝ }
+    requires { ⌜ Valid (k .head) (now line) × Joined (fromWords (now junction))
+        × Voices (now heads) (now lines) × (k .held ≤ 1048577) ⌝ }
 {
     if failed {
         os::fail(b"console: standard input");
         return;
     }
-    let at = last(line, junction, k, buffer, room);
+    let at = last(line, junction, heads, lines, k, buffer, room);
     complain(flush(buffer, at));
 }
 
@@ -88,21 +107,24 @@ fn finish(
 fn answer(
     line: &mut [i32; 2112],
     junction: &mut [u32; 16],
+    heads: &mut [[u32; 27]; 6],
+    lines: &mut [[i32; 2112]; 6],
     mut k: Kept,
     buffer: &mut [u8; 4096],
     room: &mut [u8; ROOM],
 )
-    requires { ⌜ Valid (k .head) (now line) × Joined (fromWords (now junction)) × (k .held ≤ 1048577) ⌝ }
+    requires { ⌜ Valid (k .head) (now line) × Joined (fromWords (now junction))
+        × Voices (now heads) (now lines) × (k .held ≤ 1048577) ⌝ }
 {
     let mut turns: u64 = 18_446_744_073_709_551_615;
     while 0 < turns {
         turns = turns - 1;
         let r = more(room, k.held);
         if r.held <= k.held {
-            finish(line, junction, k, buffer, room, r.failed);
+            finish(line, junction, heads, lines, k, buffer, room, r.failed);
             return;
         }
-        let n = came(line, junction, k, buffer, room, r.held);
+        let n = came(line, junction, heads, lines, k, buffer, room, r.held);
         k = n;
         if 4_096 < k.at {
             break;
@@ -111,7 +133,7 @@ fn answer(
     complain(k.at);
 }
 
-// Before any `open` the voice is that of a refused opening, and so is the junction before any `junction`.
+// Before they are opened, the voice, the junction and the strings are those of a refused opening.
 fn main() {
     let mut line = [0i32; 2112];
     let mut buffer = [0u8; 4096];
@@ -119,6 +141,9 @@ fn main() {
     let first = opened(&mut line, plain(EMPTY));
     let mut junction = [0u32; 16];
     open_junction(&mut junction, 0, 0, 0, 0);
+    let mut heads = [[0u32; 27]; 6];
+    let mut lines = [[0i32; 2112]; 6];
+    strings::reset(&mut heads, &mut lines);
     let h = first.head;
     let k = Kept {
         head: h,
@@ -127,5 +152,13 @@ fn main() {
         held: 0,
         long: false,
     };
-    answer(&mut line, &mut junction, k, &mut buffer, &mut room);
+    answer(
+        &mut line,
+        &mut junction,
+        &mut heads,
+        &mut lines,
+        k,
+        &mut buffer,
+        &mut room,
+    );
 }

@@ -3,8 +3,12 @@
 use help::error;
 use print::bytes;
 use print::short;
+use request::Request;
 use request::kinds::ERROR;
 use request::kinds::INSTANT;
+use request::table::TABLE;
+use words::pieces::ahead;
+use words::pieces::piece;
 use words::word;
 
 // The name that a line starts with.
@@ -15,10 +19,29 @@ fn name(buffer: &mut [u8; 4096], at: usize, s: &[u8]) -> usize {
     bytes(buffer, at, &s[a..e])
 }
 
+// The place of a kind's row in the table.
+fn place(kind: u32) -> usize {
+    if kind == 0 {
+        return 0;
+    }
+    (kind - 1) as usize
+}
+
+// `string`, its number, and the name of a call on it.
+fn string_name(buffer: &mut [u8; 4096], at: usize, string: u32, kind: u32) -> usize {
+    let a = bytes(buffer, at, b"string");
+    let b = short(buffer, a, string);
+    let c = bytes(buffer, b, b" ");
+    bytes(buffer, c, ahead(piece(&TABLE, b'\n', place(kind)), b' '))
+}
+
 // The name of a line that is right; `error`, the number and what was expected of one that is wrong.
-pub fn start(buffer: &mut [u8; 4096], at: usize, s: &[u8], index: u64, kind: u32) -> usize {
-    if kind == ERROR {
+pub fn start(buffer: &mut [u8; 4096], at: usize, s: &[u8], index: u64, l: Request) -> usize {
+    if l.kind == ERROR {
         return error(buffer, at, s, index);
+    }
+    if l.on_string {
+        return string_name(buffer, at, l.string, l.kind);
     }
     name(buffer, at, s)
 }

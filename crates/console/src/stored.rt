@@ -17,7 +17,7 @@ use voice::Answer;
 use voice::Head;
 
 // Stores the voice over the first bytes.
-fn store_first(line: &[i32; 2112], head: Head, room: &mut [u8], places: usize) -> Kept
+pub fn store_first(line: &[i32; 2112], head: Head, room: &mut [u8], places: usize) -> Kept
     requires { ⌜ Valid head (now line) × (places ≤ length (now room)) ⌝ }
 {
     store::store(line, head, &mut room[..places])

@@ -67,7 +67,7 @@ fn listed(buffer: &mut [u8; 4096], at: usize, kind: u32) -> usize
 // What each of the calls takes, one after the other.
 pub fn help(buffer: &mut [u8; 4096], at: usize) -> usize
     ensures { λ r. ⌜ (at ≤ 4097 → r ≤ 4097) ⌝ }
-    ensures { λ r. ⌜ Rows (upTo 29) (now (buffer .entry)) at (now (buffer .exit)) r ⌝ }
+    ensures { λ r. ⌜ Rows (upTo 31) (now (buffer .entry)) at (now (buffer .exit)) r ⌝ }
 {
     let mut a = at;
     let mut kind = 1;

@@ -36,6 +36,8 @@ table =
     ++ ascii "load takes B1 B2 ..\n"
     ++ ascii "panel takes B1 B2 ..\n"
     ++ ascii "merge takes ROOM B1 .. / C1 .. (ROOM at most 32768)\n"
+    ++ ascii "string takes K CALL .. (a call of a voice but block)\n"
+    ++ ascii "mix takes OUT X1 X2 .. (at most 4096 each)\n"
     ++ ascii "help takes nothing\n"
     ++ ascii "no call has this name: help lists them\n"
     ++ ascii "a line has at most 1048576 bytes\n"
@@ -46,9 +48,9 @@ row t kind = piece 10 (kind - 1) t
 abbrev pub name : List ℕ → ℕ → List ℕ
 name t kind = cut 32 (row t kind)
 
--- the kind that a word names by the rows of t: the first whose name it is, and 30 where it is none of the first 29
+-- the kind that a word names by the rows of t: the first whose name it is, and 32 where it is none of the first 31
 pub record Named (t w : List ℕ) (kind : ℕ) : Type 0 where
   pub least : 1 ≤ kind
-  pub most : kind ≤ 30
-  pub here : kind < 30 → w ≡ name t kind
+  pub most : kind ≤ 32
+  pub here : kind < 32 → w ≡ name t kind
   pub none : (k : ℕ) → 1 ≤ k → k < kind → w ≡ name t k → ⊥

@@ -1,5 +1,5 @@
 // The kinds of lines: their names, how many numbers follow each, and the largest counts of samples.
-// 0 is a line with no word, 30 one that is none of the others, and 31 one that is too long.
+// 0 is a line with no word, 32 one that is none of the others, and 33 one that is too long.
 ghost use Prim.Native.Nat.{_≤_};
 ghost use Rattle.request.specs.Table.{table as Table, Named};
 use crate::lists::Taken;
@@ -65,13 +65,17 @@ pub const PANEL: u32 = 27;
 
 pub const MERGE: u32 = 28;
 
-pub const HELP: u32 = 29;
+pub const STRING: u32 = 29;
 
-pub const ERROR: u32 = 30;
+pub const MIX: u32 = 30;
 
-pub const LONG: u32 = 31;
+pub const HELP: u32 = 31;
 
-// The place of a word among the names of a table's rows, from 1; 30 where it is none of the first 29.
+pub const ERROR: u32 = 32;
+
+pub const LONG: u32 = 33;
+
+// The place of a word among the names of a table's rows, from 1; 32 where it is none of the first 31.
 fn place(w: &[u8], table: &[u8]) -> u32
     ensures { λ r. ⌜ Named (now (table .entry)) (now (w .entry)) r ⌝ }
 {
@@ -105,8 +109,17 @@ pub fn wanted(kind: u32) -> usize
         JUNCTION => 4,
         PLUCK | ANNOUNCE | INSTANT | ASK | LENGTH | NOTE | LEAST => 3,
         COEFFICIENTS | WAVWRITE => 2,
-        LOSS | BLOCK | DRAW | RUN | LINE | WAVREAD | GATHER | MOVE | STORE | MERGE => 1,
+        LOSS | BLOCK | DRAW | RUN | LINE | WAVREAD | GATHER | MOVE | STORE | MERGE | MIX => 1,
         _ => 0,
+    }
+}
+
+// Whether a line on a string may have this kind; state and line show a string that there is.
+pub fn on_string(kind: u32, string: u32) -> bool {
+    match kind {
+        OPEN | LOSS | PLUCK | ANNOUNCE | INSTANT | ASK | COMMIT | WITHDRAW | STORE | LOAD => true,
+        STATE | LINE => string <= 5,
+        _ => false,
     }
 }
 
@@ -144,6 +157,9 @@ pub fn lent(kind: u32, n: u32, m: u32) -> Taken
         return counted(n, 4_096);
     }
     if kind == BLOCK {
+        return counted(n, 4_096);
+    }
+    if kind == MIX {
         return counted(n, 4_096);
     }
     if kind == RUN {

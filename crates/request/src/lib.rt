@@ -13,17 +13,23 @@ pub mod table;
 
 use kinds::EMPTY;
 use kinds::ERROR;
+use kinds::STRING;
 use kinds::lent;
 use kinds::named;
+use kinds::on_string;
 use kinds::wanted;
 use lists::listed;
 use lists::numbers;
+use next::next_number;
 use words::word;
 
-// places is how many samples or bytes are lent or shown, list is where the list of samples or bytes starts,
-// and a to e are the numbers that follow the name, 0 where there are fewer.
+// on_string is whether it is a call on a string, and string is which, else 0; places is how many samples or bytes
+// are lent or shown, list is where the list of samples or bytes starts, and a to e are the numbers that follow the
+// name, 0 where there are fewer.
 pub struct Request {
     pub kind: u32,
+    pub on_string: bool,
+    pub string: u32,
     pub places: usize,
     pub list: usize,
     pub a: u32,
@@ -39,6 +45,8 @@ pub fn plain(kind: u32) -> Request
 {
     Request {
         kind: kind,
+        on_string: false,
+        string: 0,
         places: 0,
         list: 0,
         a: 0,
@@ -55,6 +63,8 @@ fn numbered(kind: u32, places: usize, list: usize, n: &[u32; 5]) -> Request
 {
     Request {
         kind: kind,
+        on_string: false,
+        string: 0,
         places: places,
         list: list,
         a: n[0],
@@ -80,6 +90,56 @@ fn called(kind: u32, s: &[u8], from: usize) -> Request
     plain(ERROR)
 }
 
+// A line as a call on a string.
+fn with_string(l: Request, string: u32) -> Request
+    ensures { λ r. ⌜ (r .places ≡ l .places) × (r .list ≡ l .list) ⌝ }
+{
+    Request {
+        kind: l.kind,
+        on_string: true,
+        string: string,
+        places: l.places,
+        list: l.list,
+        a: l.a,
+        b: l.b,
+        c: l.c,
+        d: l.d,
+        e: l.e,
+    }
+}
+
+// A call on a string, whose name and numbers start at a place.
+fn call_on(string: u32, s: &[u8], from: usize) -> Request
+    requires { ⌜ from ≤ length (now s) ⌝ }
+    ensures { λ r. ⌜ InLine (length (now (s .entry))) r ⌝ }
+{
+    let t = &s[from..];
+    let w = word(t);
+    let a = w.start;
+    let e = w.end;
+    let kind = named(&t[a..e]);
+    if !on_string(kind, string) {
+        return plain(ERROR);
+    }
+    let l = called(kind, s, from + e);
+    if l.kind == ERROR {
+        return l;
+    }
+    with_string(l, string)
+}
+
+// A line on a string, whose number starts at a place.
+fn on(s: &[u8], from: usize) -> Request
+    requires { ⌜ from ≤ length (now s) ⌝ }
+    ensures { λ r. ⌜ InLine (length (now (s .entry))) r ⌝ }
+{
+    let r = next_number(&s[from..]);
+    if r.ok {
+        return call_on(r.value, s, from + r.end);
+    }
+    plain(ERROR)
+}
+
 // What a line asks, whose comment is cut off.
 pub fn parse(s: &[u8]) -> Request
     ensures { λ r. ⌜ InLine (length (now (s .entry))) r ⌝ }
@@ -90,5 +150,9 @@ pub fn parse(s: &[u8]) -> Request
     if a == e {
         return plain(EMPTY);
     }
-    called(named(&s[a..e]), s, e)
+    let kind = named(&s[a..e]);
+    if kind == STRING {
+        return on(s, e);
+    }
+    called(kind, s, e)
 }

@@ -8,6 +8,7 @@ use crate::kinds::BLOCK;
 use crate::kinds::GATHER;
 use crate::kinds::LOAD;
 use crate::kinds::MERGE;
+use crate::kinds::MIX;
 use crate::kinds::PANEL;
 use crate::kinds::RECORD;
 use crate::kinds::RUN;
@@ -140,7 +141,7 @@ pub fn listed(kind: u32, s: &[u8], numbers: bool, places: bool) -> bool
     if numbers {
         if places {
             return match kind {
-                BLOCK | WAVWRITE => sampled(s),
+                BLOCK | MIX | WAVWRITE => sampled(s),
                 RECORD | RUN | WAVREAD | GATHER | LOAD | PANEL => byted(s),
                 TUBE => is_two_samples(s),
                 MERGE => is_two_lists(s),

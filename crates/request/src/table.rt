@@ -1,6 +1,6 @@
 // What each call takes, a row for each kind from OPEN to HELP in their order; then what is said of a line whose
 // name is none of these, and of one that is too long. No row has more than 64 bytes. specs/Table.antt has it too.
-pub const TABLE: [u8; 844] = *b"\
+pub const TABLE: [u8; 940] = *b"\
     open takes N L D G NA\n\
     loss takes G\n\
     pluck takes A COUNT SEED\n\
@@ -29,6 +29,8 @@ pub const TABLE: [u8; 844] = *b"\
     load takes B1 B2 ..\n\
     panel takes B1 B2 ..\n\
     merge takes ROOM B1 .. / C1 .. (ROOM at most 32768)\n\
+    string takes K CALL .. (a call of a voice but block)\n\
+    mix takes OUT X1 X2 .. (at most 4096 each)\n\
     help takes nothing\n\
     no call has this name: help lists them\n\
     a line has at most 1048576 bytes\n";

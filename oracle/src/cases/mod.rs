@@ -12,20 +12,20 @@ pub mod random;
 pub mod recordings;
 pub mod score_fields;
 pub mod scores;
+pub mod shares;
 pub mod stores;
+pub mod strings;
 pub mod text;
 pub mod texts;
 pub mod words;
 
 use crate::call::Call;
 use crate::click::{history, Tally};
-use crate::command::{commands, Command};
 use crate::console::answers;
 use crate::player::play;
 use crate::refusal::number;
-use crate::score::run;
-use crate::stored::{load, stored};
 use crate::voice::Voice;
+use shares::lists_of;
 use std::fs;
 use std::path::Path;
 
@@ -38,71 +38,12 @@ pub struct Case {
 /// What all the cases of one command reached.
 #[derive(Debug)]
 pub struct Report {
-    /// Answers by refusal number, 0 for success; 24, 26, 27 and 31 are none's.
+    /// Answers by refusal number, 0 for success; 26, 27 and 31 are none's.
     pub refusals: [u64; 33],
     /// Lines answered by `error`.
     pub errors: u64,
     /// What was compared for demand 3.
     pub tally: Tally,
-}
-
-/// What Open returned, and calls on it.
-type List = (Voice, Vec<Call>);
-
-/// The voice that a list leaves, stored.
-fn stored_by((opened, calls): &List) -> Vec<u8> {
-    let mut voice = opened.clone();
-    for call in calls {
-        call.make(&mut voice);
-    }
-    stored(&voice)
-}
-
-/// The list that goes on where these bytes are loaded: the one whose voice was stored so, "history from the original
-/// opening"; "Open's refusal voice", where they are refused; else none "until the next Open".
-fn resumed(bytes: &[u8], list: &Option<List>, kept: &[(Vec<u8>, List)]) -> Option<List> {
-    if let Some(now) = list.as_ref().filter(|list| stored_by(list) == bytes) {
-        return Some(now.clone());
-    }
-    let (voice, answer) = load(bytes);
-    let before = kept.iter().find(|(form, _)| form == bytes).map(|(_, list)| list.clone());
-    before.or(answer.is_err().then_some((voice, Vec::new())))
-}
-
-/// The lists of calls of a console text with what Open returned: "Opening anew begins another
-/// list. A score run opens a voice of its own". A load goes on with the list whose voice was stored.
-pub fn lists_of(text: &[u8]) -> Vec<List> {
-    let (refused, _) = Voice::open(0, 0, 0, 0, 0);
-    let mut lists = Vec::new();
-    let mut list = Some((refused, Vec::new()));
-    let mut kept = Vec::new();
-    for (_, command) in commands(text) {
-        match command {
-            Some(Command::Open { order, length, delay, loss, advance }) => {
-                let (voice, _) = Voice::open(order, length, delay, loss, advance);
-                lists.extend(list.replace((voice, Vec::new())));
-            }
-            Some(Command::Call(call)) => {
-                if let Some(list) = &mut list {
-                    list.1.push(call);
-                }
-            }
-            Some(Command::Store { .. }) => {
-                kept.extend(list.clone().map(|list| (stored_by(&list), list)));
-            }
-            Some(Command::Load { bytes }) => {
-                let next = resumed(&bytes, &list, &kept);
-                lists.extend(std::mem::replace(&mut list, next));
-            }
-            Some(Command::Run { places, bytes }) => {
-                let run = run(&bytes, &mut vec![0; places]);
-                lists.extend(run.opened.map(|opened| (opened, run.list)));
-            }
-            _ => {}
-        }
-    }
-    lists.extend(list);
-    lists
 }
 
 impl Default for Report {
@@ -114,13 +55,16 @@ impl Default for Report {
 impl Report {
     /// The numbers that answers have, and how often each was reached.
     pub fn numbers(&self) -> impl Iterator<Item = (usize, u64)> + '_ {
-        (0..=23).chain([25, 28, 29, 30, 32]).map(|number| (number, self.refusals[number]))
+        (0..=25).chain([28, 29, 30, 32]).map(|number| (number, self.refusals[number]))
     }
 
     /// Counts the refusal numbers in the answers of the console.
     fn count_answers(&mut self, printed: &str) {
         for line in printed.lines() {
-            let mut words = line.split(' ');
+            let mut words = line.split(' ').peekable();
+            if words.next_if_eq(&"string").is_some() {
+                words.next();
+            }
             match words.next() {
                 Some("error") => self.errors += 1,
                 Some("draw" | "state" | "line" | "gather" | "help") | None => {}

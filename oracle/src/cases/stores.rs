@@ -5,13 +5,13 @@ use super::lists::any_call;
 use super::random::Random;
 use super::scores::damage;
 use super::text::Text;
-use crate::console::kept_voice;
+use crate::console::kept_voices;
 use crate::stored::{form, parts, stored, usual, Parts, LINE, SIZES};
 use crate::voice::Voice;
 
 /// The voice that the console keeps after these lines.
 fn voice(text: &Text) -> Voice {
-    kept_voice(&text.bytes())
+    kept_voices(&text.bytes()).0
 }
 
 /// `load` and `panel` of these bytes.

@@ -13,6 +13,7 @@ pub mod orders;
 pub mod records;
 pub mod scores;
 pub mod stored;
+pub mod strings;
 pub mod table;
 pub mod term;
 pub mod vectors;

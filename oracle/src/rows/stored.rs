@@ -1,7 +1,7 @@
 //! Rows of stored voices, as lines of the console: 00, every part, each kind of change, and some limits.
 
 use super::vectors::hex;
-use crate::console::kept_voice;
+use crate::console::kept_voices;
 use crate::stored::{form, parts, usual};
 
 /// A voice with every part, of which an asked change waits; with an announced change; with none.
@@ -16,7 +16,7 @@ const VOICES: &[&str] = &[
 /// The lines of a row, and storing, loading and showing what they leave.
 fn voice(words: &&str) -> Vec<String> {
     let mut lines: Vec<String> = words.split("; ").map(str::to_string).collect();
-    let parts = parts(&kept_voice(lines.join("\n").as_bytes()));
+    let parts = parts(&kept_voices(lines.join("\n").as_bytes()).0);
     let usual = usual();
     let map = (0..8).fold(0, |map, bit| map | u8::from(parts[bit] != usual[bit]) << bit);
     let bytes = form(map, &parts);

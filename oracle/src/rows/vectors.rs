@@ -1,6 +1,6 @@
 //! All rows as one text of the console.
 
-use super::{files, gathers, junctions, merges, notes, records, scores, stored, voices};
+use super::{files, gathers, junctions, merges, notes, records, scores, stored, strings, voices};
 
 /// Bytes as words of the console, a space before each.
 pub fn hex(bytes: &[u8]) -> String {
@@ -19,6 +19,7 @@ pub fn text() -> String {
         junctions::lines(),
         stored::lines(),
         merges::lines(),
+        strings::lines(),
     ];
     rows.concat().iter().map(|line| format!("{line}\n")).collect()
 }

@@ -6,15 +6,16 @@ use borrow.Author.Needs.{needs}
 use Rattle.voice.specs.Valid.{Valid}
 use Rattle.tube.specs.Valid.{Valid as Joined}
 use Rattle.tube.specs.Words.{fromWords}
+use Rattle.strings.specs.Rows.{Voices}
 use Rattle.console.proofs.answer.Statement.{statement}
 use Rattle.console.proofs.answer.Tie as tie
 
 abbrev Inv-loop : tie.InvT-loop
-Inv-loop line₀ junction₀ k₀ buffer₀ room₀ turns₀ line junction k buffer room turns =
-    Valid (k .head) line × Joined (fromWords junction) × (k .held ≤ 1048577)
+Inv-loop line₀ junction₀ heads₀ lines₀ k₀ buffer₀ room₀ turns₀ line junction heads lines k buffer room turns =
+    Valid (k .head) line × Joined (fromWords junction) × Voices heads lines × (k .held ≤ 1048577)
 
 abbrev μ-loop : tie.MeasureT-loop
-μ-loop line₀ junction₀ k₀ buffer₀ room₀ turns₀ line junction k buffer room turns = turns
+μ-loop line₀ junction₀ heads₀ lines₀ k₀ buffer₀ room₀ turns₀ line junction heads lines k buffer room turns = turns
 
 loop-holds : tie.Need-loop-holds Inv-loop μ-loop
 loop-holds c = search needs
@@ -36,7 +37,7 @@ came-requires c κs = search needs
 
 loop-less : tie.Need-loop-less Inv-loop μ-loop
 loop-less c =
-    let l = c .before .before .before .before .before .before .before .before .before .before .before .before in
+    let l = c .before .before .before .before .before .before .before .before .before .before .before .before .before .before in
     omega (arith, l .loop-test .taken)
 
 loop-again : tie.Need-loop-again Inv-loop μ-loop

@@ -12,7 +12,7 @@ returns c = search needs
 
 slice-aggregate-answered : tie.Need-slice-aggregate-answered
 slice-aggregate-answered c =
-    let s = c .before .before .before .before .before .before in
+    let s = c .before .before .before .before .before .before .before .before in
     sym (length-take-le (s .args .k .held) (s .args .room .now) (omega arith))
 
 answered-requires : tie.Need-answered-requires

@@ -12,10 +12,10 @@ use Rattle.help.proofs.help.Tie as tie
 
 abbrev Inv-loop : tie.InvT-loop
 Inv-loop buffer₀ at a₀ kind₀ buffer a kind =
-    (1 ≤ kind) × (kind ≤ 30) × (at ≤ 4097 → a ≤ 4097) × Rows (upTo (kind - 1)) buffer₀ at buffer a
+    (1 ≤ kind) × (kind ≤ 32) × (at ≤ 4097 → a ≤ 4097) × Rows (upTo (kind - 1)) buffer₀ at buffer a
 
 abbrev μ-loop : tie.MeasureT-loop
-μ-loop buffer₀ at a₀ kind₀ buffer a kind = 30 - kind
+μ-loop buffer₀ at a₀ kind₀ buffer a kind = 32 - kind
 
 loop-holds : tie.Need-loop-holds Inv-loop μ-loop
 loop-holds c = (omega arith, omega arith, λ h. h, none)
@@ -41,7 +41,7 @@ loop-again c =
 returns : tie.Need-returns Inv-loop μ-loop
 returns c =
     let l = c .before .loop in
-    let e : l .kind ≡ 30 = omega arith in
+    let e : l .kind ≡ 32 = omega arith in
     (l .inv .2, rows-at e (l .inv .3))
 
 pub help-spec : {M : Type 1} → statement M

@@ -2,21 +2,23 @@
 -- Assumes nothing.
 use mathlib.Core.Path.{sym}
 use Prim.Native.Nat.{_≤_}
+use native.Mathlib.Omega.{arith}
 use borrow.Author.Needs.{needs}
 use lib.ListN.{length}
 use lib.Seq.{length-take-le}
 use Rattle.voice.specs.Valid.{Valid}
 use Rattle.tube.specs.Valid.{Valid as Joined}
 use Rattle.tube.specs.Words.{fromWords}
+use Rattle.strings.specs.Rows.{Voices}
 use Rattle.console.proofs.lines.whole.Statement.{statement}
 use Rattle.console.proofs.lines.whole.Tie as tie
 
 abbrev Inv-loop : tie.InvT-loop
-Inv-loop line₀ junction₀ buffer₀ s head₀ at₀ index₀ long₀ t₀ line junction buffer head at index long t =
-    Valid head line × Joined (fromWords junction) × (length t ≤ length s)
+Inv-loop line₀ junction₀ heads₀ lines₀ buffer₀ s head₀ at₀ index₀ long₀ t₀ line junction heads lines buffer head at index long t =
+    Valid head line × Joined (fromWords junction) × Voices heads lines × (length t ≤ length s)
 
 abbrev μ-loop : tie.MeasureT-loop
-μ-loop line₀ junction₀ buffer₀ s head₀ at₀ index₀ long₀ t₀ line junction buffer head at index long t = length t
+μ-loop line₀ junction₀ heads₀ lines₀ buffer₀ s head₀ at₀ index₀ long₀ t₀ line junction heads lines buffer head at index long t = length t
 
 loop-holds : tie.Need-loop-holds Inv-loop μ-loop
 loop-holds c = search needs
@@ -38,7 +40,7 @@ part-u-end c = search needs
 
 slice-aggregate-one : tie.Need-slice-aggregate-one Inv-loop μ-loop
 slice-aggregate-one c =
-    let e = c .before .before .before .before .before .before in
+    let e = c .before .before .before .before .before .before .before .before in
     sym (length-take-le (e .before2 .result) (e .before .before .loop .t .now) (e .before2 .ensures .within))
 
 one-requires : tie.Need-one-requires Inv-loop μ-loop
@@ -51,7 +53,10 @@ loop-less : tie.Need-loop-less Inv-loop μ-loop
 loop-less c = search needs
 
 loop-again : tie.Need-loop-again Inv-loop μ-loop
-loop-again c = search needs
+loop-again c =
+    let l = c .before .before .before .before .before .before .before .before .before .before .before .before .before .loop in
+    let r = c .before .before .one .ensures in
+    (r .0, r .1, r .2, omega (arith, loop-less c, l .inv .3))
 
 returns : tie.Need-returns Inv-loop μ-loop
 returns c = search needs

@@ -29,12 +29,12 @@ module _ (table t : List ℕ) (k : ℕ) (h : 1 ≤ k) (e : (j : ℕ) → piece 1
 
 abbrev Inv-loop : tie.InvT-loop
 Inv-loop w table t₀ k₀ t k =
-    (1 ≤ k) × (k ≤ 30)
+    (1 ≤ k) × (k ≤ 32)
     × ((j : ℕ) → piece 10 j t ≡ piece 10 (k - 1 + j) table)
     × ((j : ℕ) → 1 ≤ j → j < k → w ≡ name table j → ⊥)
 
 abbrev μ-loop : tie.MeasureT-loop
-μ-loop w table t₀ k₀ t k = 30 - k
+μ-loop w table t₀ k₀ t k = 32 - k
 
 loop-holds : tie.Need-loop-holds Inv-loop μ-loop
 loop-holds c = (

@@ -1,0 +1,10 @@
+pub mod Numbers
+pub mod Apart
+pub mod Returns
+pub mod Share
+pub mod Shared
+pub mod Sums
+pub mod Mix
+pub mod InstanceShares
+pub mod Instance
+pub mod Rows

@@ -1,0 +1,4 @@
+pub mod Added
+pub mod Strings
+pub mod Went
+pub mod Mixed
