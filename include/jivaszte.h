@@ -60,6 +60,8 @@ enum {
     JIVASZTE_STORED_PART = 23,
     JIVASZTE_STRING = 24,
     JIVASZTE_AREA = 25,
+    JIVASZTE_NOT_FINITE = 26,
+    JIVASZTE_FLOAT_RANGE = 27,
     JIVASZTE_HEADERS = 28,
     JIVASZTE_ALONE = 29,
     JIVASZTE_MERGE = 30
@@ -101,6 +103,10 @@ static inline const char *jivaszte_words(uint32_t number)
         return "the string number is above 5";
     case 25:
         return "an area is outside 1 to 65535";
+    case 26:
+        return "the float is not a number, or it is infinite";
+    case 27:
+        return "a sample is outside -1 to 1, or a loss outside 0 to 1";
     case 28:
         return "the first 8 bytes of the scores differ";
     case 29:
@@ -504,6 +510,43 @@ uint32_t jivaszte_junction_move(jivaszte_junction *junction, uint32_t delay);
    and then gives 0 and 0 and leaves the junction as it was. */
 uint32_t jivaszte_junction_sample(jivaszte_junction *junction, int32_t from_left, int32_t from_right, int32_t *to_right,
                                   int32_t *to_left);
+
+/* The length and the delay of a delay in samples, rounded to 1/4,096 of a sample, a half upward, and split as a note's
+   period is. Refuses by 1, 26, 13, and then gives 0 and 0. */
+uint32_t jivaszte_split(uint32_t order, float samples, uint32_t *length, uint32_t *delay);
+
+/* A frame of an instrument: strings 0 to 2 left and 3 to 5 right, each side from -1 to 1. */
+typedef struct {
+    float left;
+    float right;
+} jivaszte_frame;
+
+/* The routines behind an instrument's floats, over its two fields. */
+uint32_t jivaszte_strings_event_delay(uint32_t (*heads)[JIVASZTE_HEAD], uint32_t string, float samples);
+uint32_t jivaszte_strings_event_loss(uint32_t (*heads)[JIVASZTE_HEAD], uint32_t string, float loss);
+jivaszte_frame jivaszte_strings_frame(uint32_t (*heads)[JIVASZTE_HEAD], int32_t (*lines)[JIVASZTE_LINE], float sample,
+                                      uint32_t *number);
+
+/* A host's delay in samples, rounded and split as above: an announced change of the string, its order kept. Refuses by 24,
+   26, 13, 6, and then nothing changes. */
+static inline uint32_t jivaszte_instrument_event_delay(jivaszte_instrument *instrument, uint32_t string, float samples)
+{
+    return jivaszte_strings_event_delay(instrument->heads, string, samples);
+}
+
+/* A host's loss, 0 to 1, rounded to 1/65,536, a half upward, and at most 65,535: the string's loss call. Refuses by 24, 26,
+   27, and then nothing changes. */
+static inline uint32_t jivaszte_instrument_event_loss(jivaszte_instrument *instrument, uint32_t string, float loss)
+{
+    return jivaszte_strings_event_loss(instrument->heads, string, loss);
+}
+
+/* Takes one sample, -1 to 1, for all six strings, rounded to 1/2^23, a half upward, and gives one frame. number is 0, or 26
+   or 27 where the sample is refused: then the frame is 0, 0 and nothing changes. */
+static inline jivaszte_frame jivaszte_instrument_frame(jivaszte_instrument *instrument, float sample, uint32_t *number)
+{
+    return jivaszte_strings_frame(instrument->heads, instrument->lines, sample, number);
+}
 
 #ifdef __cplusplus
 }

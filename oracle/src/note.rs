@@ -51,7 +51,7 @@ fn period(rate: u32, m: u32) -> i128 {
 
 /// "Then T − 2,048 = 4,096·L + d with d in the order's range". The range holds 4,096 numbers, so
 /// L and d are determined; L can be 0 or below 0.
-fn split(order: u32, period: i128) -> (i128, i128) {
+pub fn split(order: u32, period: i128) -> (i128, i128) {
     let rest = period - 2_048;
     let lowest = i128::from(*delay_range(order).start());
     let length = floor_div(rest - lowest, SAMPLE);

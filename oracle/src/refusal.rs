@@ -53,6 +53,10 @@ pub enum Refusal {
     String = 24,
     /// Document 02: "25 an area outside its limits"
     Area = 25,
+    /// Document 02: "26 not a number or infinite"
+    NotFinite = 26,
+    /// Document 02: "27 a sample outside −1 to 1 or a loss outside 0 to 1"
+    FloatRange = 27,
     /// Document 02: "28 the first 8 bytes differ"
     Headers = 28,
     /// Document 02: "29 a score that does not end alone"

@@ -4,6 +4,8 @@
 //! src/stored.rs alone give them, and those over a junction for one that `jivaszte_junction_open` made,
 //! which src/junction.rs alone gives them.
 
+use crate::Frame;
+
 #[link(name = "jivaszte", kind = "static")]
 extern "C" {
     pub fn jivaszte_version() -> u32;
@@ -238,4 +240,17 @@ extern "C" {
         to_right: &mut i32,
         to_left: &mut i32,
     ) -> u32;
+    pub fn jivaszte_split(order: u32, samples: f32, length: &mut u32, delay: &mut u32) -> u32;
+    pub fn jivaszte_strings_event_delay(
+        heads: &mut [[u32; 27]; 6],
+        string: u32,
+        samples: f32,
+    ) -> u32;
+    pub fn jivaszte_strings_event_loss(heads: &mut [[u32; 27]; 6], string: u32, loss: f32) -> u32;
+    pub fn jivaszte_strings_frame(
+        heads: &mut [[u32; 27]; 6],
+        lines: &mut [[i32; 2112]; 6],
+        sample: f32,
+        number: &mut u32,
+    ) -> Frame;
 }

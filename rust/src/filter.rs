@@ -45,6 +45,22 @@ pub fn note(order: u32, rate: u32, note: u32) -> Result<(u32, u32), Refusal> {
     Ok((length, delay))
 }
 
+/// The length and the delay of a delay in samples, rounded to 1/4,096 of a sample, a half upward, and split as a
+/// note's period is. Refuses by `Order`, `NotFinite`, `NoteLength`.
+///
+/// ```
+/// use jivaszte::{split, Refusal};
+/// assert_eq!(split(1, 100.25), Ok((99, 3_072)));
+/// assert_eq!(split(1, f32::NAN), Err(Refusal::NotFinite));
+/// assert_eq!(split(1, f32::MAX), Err(Refusal::NoteLength));
+/// ```
+pub fn split(order: u32, samples: f32) -> Result<(u32, u32), Refusal> {
+    let (mut length, mut delay) = (0, 0);
+    // SAFETY: the references are valid, and none overlaps another.
+    Refusal::of(unsafe { c::jivaszte_split(order, samples, &mut length, &mut delay) })?;
+    Ok((length, delay))
+}
+
 /// A draw, -32,768 to 32,767, on a noise state, which is moved on.
 pub fn draw(noise: &mut u32) -> i32 {
     // SAFETY: the reference is valid.

@@ -22,8 +22,8 @@ mod stored;
 mod voice;
 mod wav;
 
-pub use filter::{coefficients, draw, effective_length, least_advance, note, ORDERS};
-pub use instrument::{Instrument, STRINGS};
+pub use filter::{coefficients, draw, effective_length, least_advance, note, split, ORDERS};
+pub use instrument::{Frame, Instrument, STRINGS};
 pub use junction::Junction;
 pub use list::{perform, Call, Opening, Performed};
 pub use refusal::Refusal;

@@ -72,6 +72,8 @@ refusals! {
     23 StoredPart "a part of the stored voice is outside its limits"
     24 String "the string number is above 5"
     25 Area "an area is outside 1 to 65535"
+    26 NotFinite "the float is not a number, or it is infinite"
+    27 FloatRange "a sample is outside -1 to 1, or a loss outside 0 to 1"
     28 Headers "the first 8 bytes of the scores differ"
     29 Alone "one of the scores does not play to its end alone"
     30 Merge "the merge does not play to its end, or does not fit the lent slice"

@@ -69,8 +69,8 @@ fn every_refusal_has_the_words_of_the_header() {
 #[test]
 fn every_routine_is_here() {
     let c = include_str!("../src/c.rs");
-    let starts =
-        ["uint64_t", "uint32_t", "int32_t", "size_t", "void"].map(|of| format!("{of} jivaszte_"));
+    let starts = ["uint64_t", "uint32_t", "int32_t", "size_t", "void", "jivaszte_frame"]
+        .map(|of| format!("{of} jivaszte_"));
     let declared: Vec<&str> = HEADER
         .lines()
         .filter_map(|line| starts.iter().find_map(|start| line.strip_prefix(start.as_str())))

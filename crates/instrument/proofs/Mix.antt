@@ -23,7 +23,7 @@ use Rattle.instrument.proofs.Shared.{shared}
 use Rattle.instrument.proofs.Sums.{put-block, as-long, sums}
 
 -- ---- sums
-total-near : (f g : ℕ → ℤ) (b : ℕ → ℕ) (n : ℕ) → ((k : ℕ) → k < n → natAbs (f k -ℤ g k) ≤ b k)
+pub total-near : (f g : ℕ → ℤ) (b : ℕ → ℕ) (n : ℕ) → ((k : ℕ) → k < n → natAbs (f k -ℤ g k) ≤ b k)
     → natAbs (total f n -ℤ total g n) ≤ sum b n
 total-near f g b zero h = omega arith
 total-near f g b (suc n) h =
@@ -91,7 +91,7 @@ module _ (ps : List Play) (xs : List ℤ) (n i : ℕ) (h : i < length xs)
       ∙ ap (λ (v : State). getD (put v (block xs n)) i (pos 0))
       (sym (shared .state k ps (r .o) (r .cs) l (r .share)))
 
-  member : (k : ℕ) → k ≤ 5 → (m : Member ps xs n i k) → natAbs (own k -ℤ ideal (own k) m) ≤ adds m
+  pub member : (k : ℕ) → k ≤ 5 → (m : Member ps xs n i k) → natAbs (own k -ℤ ideal (own k) m) ≤ adds m
   member k l apart = zero-apart (own k) (own k) refl
   member k l (retunes r) = rw (← own-sample k l r) (figured r .near)
   member k l (zeros r z) = zero-apart (own k) (fromRest r) (sym (own-sample k l r) ∙ figured r .same z)

@@ -17,6 +17,7 @@ ghost use Rattle.wav.specs.Written.{written, left};
 ghost use Rattle.wav.specs.Recorded.{recorded, filled};
 
 mod calls;
+mod hosts;
 mod instruments;
 mod junctions;
 mod stored;

@@ -1,4 +1,5 @@
 mod Table
 pub mod Theorems
 mod Quotient
+pub mod Lengths
 pub mod Returns

@@ -8,21 +8,22 @@ use native.Mathlib.Omega.{arith}
 use native.Mathlib.Nat.{mul-le-mul, pow-zero, pow-suc}
 use native.Mathlib.Decide.{ℕ-discrete, decLt}
 use borrow.Author.Tests.{eq-eqb, ne-eqb}
-use lib.IntN.{ℤ, pos, _+ℤ_, _-ℤ_, _*ℤ_}
+use lib.IntN.{ℤ, pos, _*ℤ_}
 use lib.ListN.{getD}
 use Rattle.integer.specs.Rounding.{Nearest, nearest}
 use Rattle.integer.specs.Parts.{up, dn}
 use Rattle.integer.proofs.View.{+v, *v, onev, Zs}
 use Rattle.integer.proofs.Rounding.{nearest-only}
 use Rattle.refusal.specs.Limits.{Between, refusal}
-use Rattle.refusal.specs.Orders.{lowest, highest, order}
+use Rattle.refusal.specs.Orders.{order}
 use Rattle.refusal.proofs.Tests.{refused, accepted}
-use Rattle.refusal.proofs.Ranges.{in-range, ordered, delayed}
+use Rattle.refusal.proofs.Ranges.{ordered}
 use Rattle.pitch.specs.Pitch.{octave, o, k, period, splitL, splitD, rate, note, noteLength, limits}
 use Rattle.pitch.specs.Pitch.{pitch}
 use Rattle.pitch.specs.Returns.{Period, Sounds, Long, Notes, Returns}
 use Rattle.pitch.specs.declared.Pitch.{Pitch}
-use Rattle.pitch.proofs.Theorems.{twelfth, placed, divisor-least, rounded, split-is}
+use Rattle.pitch.proofs.Theorems.{twelfth, placed, divisor-least, rounded}
+use Rattle.pitch.proofs.Lengths.{long-is, splits, splits-only}
 
 -- ---- T
 -- a power of a number no lower is no lower
@@ -103,37 +104,13 @@ module _ (fs m : ℕ) where
     abbrev split : ℤ
     split = splitL N T
 
-    delay-is : pos (up (splitD N T)) ≡ splitD N T
-    delay-is = omega (Zs, onev (splitD N T), split-is N T (h .least) .low)
-
     pub sounds : Sounds N fs m split (up (splitD N T))
-    sounds =
-        let s = split-is N T (h .least) in
-        let b : Between (lowest N) (up (splitD N T)) (highest N) = record {
-          least = omega (Zs, s .low, delay-is);
-          most = omega (Zs, s .high, delay-is);
-        } in
-        record {
-          T = T;
-          period = period-is;
-          sum = rw delay-is (s .sum);
-          range = in-range N (up (splitD N T)) h b;
-        }
+    sounds = record { T = T; period = period-is; splits = splits N T h }
 
     pub sounds-only : (L : ℤ) (d : ℕ) → Sounds N fs m L d → (L ≡ split) × (d ≡ up (splitD N T))
-    sounds-only L d s =
-        let r = delayed (s .range) in
-        let e : T -ℤ pos 2048 ≡ pos 4096 *ℤ L +ℤ pos d = rw (← period-only (s .period)) (s .sum) in
-        let p = split-is N T (h .least) .only L (pos d) e (omega (Zs, r .least)) (omega (Zs, r .most)) in
-        (p .0, ap up (p .1))
+    sounds-only L d s = splits-only N T h L d (rw (← period-only (s .period)) (s .splits))
 
 -- ---- the number
-long-is : (L : ℤ) → Between 1 (up L) 2048 ↔ Long L
-long-is L = (
-  λ b. record { least = omega (Zs, b .least, onev L); most = omega (Zs, b .most) },
-  λ l. record { least = omega (Zs, l .least, onev L); most = omega (Zs, l .most, onev L) },
-)
-
 module _ (N fs m : ℕ) where
   abbrev n : ℕ
   n = refusal (limits N fs m)
@@ -240,7 +217,7 @@ returns = record {
   notes = notes;
   some = λ N fs m h. record { L = splitL N (period fs m); d = _; sounds = sounds fs m N h };
   only = λ N fs m L K d e s u.
-      let h = ordered (s .range) in
+      let h = ordered (s .splits .range) in
       let p = sounds-only fs m N h L d s in
       let q = sounds-only fs m N h K e u in
       (p .0 ∙ sym (q .0), p .1 ∙ sym (q .1));

@@ -25,11 +25,14 @@ pub record Period (fs m : ℕ) (T : ℤ) : Type 0 where
   pub nearest : Nearest (pos (fs * 2 ^ 36 * 2 ^ dn o)) (440 * t * 2 ^ up o) T
 
 -- "Then T − 2,048 = 4,096·L + d with d in the order's range"
+pub record Splits (N : ℕ) (T L : ℤ) (d : ℕ) : Type 0 where
+  pub sum : T -ℤ pos 2048 ≡ pos 4096 *ℤ L +ℤ pos d
+  pub range : InRange N d
+
 pub record Sounds (N fs m : ℕ) (L : ℤ) (d : ℕ) : Type 0 where
   pub T : ℤ
   pub period : Period fs m T
-  pub sum : T -ℤ pos 2048 ≡ pos 4096 *ℤ L +ℤ pos d
-  pub range : InRange N d
+  pub splits : Splits N T L d
 
 pub record Sounding (N fs m : ℕ) : Type 0 where
   pub L : ℤ

@@ -84,7 +84,7 @@ fn whole(order: u32, t: u32) -> u32
 }
 
 // What is returned where only L is still to be tested, and T is t.
-fn split(order: u32, t: u32) -> Pitch
+pub fn split(order: u32, t: u32) -> Pitch
     requires { ⌜ (1 ≤ order) × (order ≤ orders) ⌝ }
     ensures { λ r. ⌜ r ≡ answer order (pos t) (refusal (noteLength (splitL order (pos t)) ∷ [])) ⌝ }
 {

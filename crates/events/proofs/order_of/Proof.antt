@@ -1,0 +1,20 @@
+-- `events::order_of` meets its contract: the first word of the row.
+use mathlib.Core.Path.{refl}
+use borrow.Author.Needs.{needs}
+use Rattle.events.proofs.order_of.Statement.{statement}
+use Rattle.events.proofs.order_of.Tie as tie
+
+mul-result : tie.Need-mul-result
+mul-result c = search needs
+
+index-1-result : tie.Need-index-1-result
+index-1-result c = search needs
+
+index-2-result : tie.Need-index-2-result
+index-2-result c = search needs
+
+returns : tie.Need-returns
+returns c = refl
+
+pub order-of-spec : {M : Type 1} → statement M
+order-of-spec = tie.close (tie.spec mul-result index-1-result index-2-result returns)

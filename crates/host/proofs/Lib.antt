@@ -1,0 +1,4 @@
+pub mod Theorems
+pub mod Figures
+pub mod Runs
+pub mod Rows

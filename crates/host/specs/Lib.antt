@@ -1,0 +1,4 @@
+pub mod Frames
+pub mod Theorems
+pub mod Figures
+pub mod Rows
