@@ -25,8 +25,8 @@ pub fn refused(score: &[u8]) -> Option<Refused> {
             bytes[offset + 1..offset + 3].copy_from_slice(&wait.to_le_bytes());
         }
     }
-    match Player::play(&bytes, &mut Nowhere) {
-        Err(Stop::Refused(refused)) => Some(refused),
+    match Player::play(&[(0, &bytes)], &mut Nowhere) {
+        Err(Stop::Refused(_, refused)) => Some(refused),
         _ => None,
     }
 }

@@ -4,6 +4,7 @@
 
 pub mod alone;
 pub mod arguments;
+pub mod body;
 pub mod bytes;
 pub mod click;
 pub mod commands;
@@ -16,11 +17,13 @@ pub mod json;
 pub mod kind;
 pub mod merge;
 pub mod meter;
+pub mod midi;
 pub mod new_file;
 pub mod note;
 pub mod number;
 pub mod options;
 pub mod page;
+pub mod piece;
 pub mod pitch;
 pub mod player;
 pub mod plot;

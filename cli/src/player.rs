@@ -1,14 +1,15 @@
-//! A score played block by block, on a voice that is kept: what the proved run of the score would put out, in
-//! memory that does not grow with it.
+//! Scores played block by block, one on a voice that is kept, several on the strings of an instrument: what the
+//! proved calls put out, in memory that does not grow with them.
 
-use crate::bytes::{records, HEADER_BYTES};
+use crate::body::Body;
+use crate::bytes::{records, Damage, HEADER_BYTES};
 use crate::failure::{Failure, Outcome};
 use crate::refusal::message;
 use crate::score::{Change, Pluck, Record, Score};
 use crate::take::{Refused, FULL_SCALE};
 use crate::timeline::ABSENT_COUNT;
 use crate::tuning::Tuning;
-use jivaszte::{Opening, Refusal, Voice};
+use jivaszte::{Opening, Refusal};
 
 /// Samples of a block at most.
 pub const BLOCK: usize = 1 << 14;
@@ -47,9 +48,9 @@ impl Studio for Loudest<'_> {
     }
 }
 
-/// Why a take ended early: the score is refused, or the studio failed.
+/// Why a take ended early: a score is refused, of which the index comes with it, or the studio failed.
 pub enum Stop {
-    Refused(Refused),
+    Refused(usize, Refused),
     Failed(Failure),
 }
 
@@ -59,39 +60,104 @@ impl From<Failure> for Stop {
     }
 }
 
-/// A voice between two records of a score.
-pub struct Player {
-    voice: Voice,
+/// The score of a string while it is played: its records and the moment of the next one.
+struct Part<'a> {
+    string: usize,
     order: u32,
     tuning: Tuning,
-    output: Vec<i32>,
+    records: Box<dyn Iterator<Item = Result<Record, Damage>> + 'a>,
+    /// The next record, its index, and the sample before which it acts.
+    next: Option<(u64, usize, Record)>,
+    read: usize,
 }
 
-impl Player {
-    /// A voice as the header of a score opens it.
-    pub fn open(bytes: &[u8]) -> Result<Player, Refusal> {
-        let bytes: &[u8; HEADER_BYTES] = bytes.first_chunk().ok_or(Refusal::CutShort)?;
-        let header = Score::decode(bytes).map(|score| score.header).unwrap_or_default();
+impl<'a> Part<'a> {
+    fn new(string: usize, bytes: &'a [u8]) -> Result<(Part<'a>, Opening), Refusal> {
+        let header: &[u8; HEADER_BYTES] = bytes.first_chunk().ok_or(Refusal::CutShort)?;
+        let header = Score::decode(header).map(|score| score.header).unwrap_or_default();
         let (order, tuning) = (header.order.into(), header.tuning);
-        let voice = Voice::open(Opening {
+        let opening = Opening {
             order,
             length: tuning.length.into(),
             delay: tuning.delay.into(),
             loss: header.loss.into(),
             advance: header.advance.into(),
-        })?;
-        Ok(Player { voice, order, tuning, output: vec![0; BLOCK] })
+        };
+        let records = Box::new(records(bytes).map(|(_, record)| record));
+        Ok((Part { string, order, tuning, records, next: None, read: 0 }, opening))
     }
 
-    /// Plays a score to its end.
-    pub fn play(bytes: &[u8], studio: &mut dyn Studio) -> Result<Player, Stop> {
-        let refused = |refusal, record| Stop::Refused(Refused { refusal, record });
-        let mut player = Player::open(bytes).map_err(|refusal| refused(refusal, None))?;
-        for (index, (_, record)) in records(bytes).enumerate() {
-            let at = |refusal| refused(refusal, Some(index));
-            let record = record.map_err(|damage| at(damage.refusal))?;
-            player.wait(record.wait.unwrap_or(0).into(), studio)?;
-            player.act(&record, studio).map_err(at)?;
+    /// Reads the record after the one that acted before the sample `now`.
+    fn read(&mut self, now: u64) -> Result<(), Refused> {
+        let (index, record) = (self.read, self.records.next().transpose());
+        let refused = |damage: Damage| Refused { refusal: damage.refusal, record: Some(index) };
+        let record = record.map_err(refused)?;
+        self.next = record.map(|record| (now + u64::from(record.wait.unwrap_or(0)), index, record));
+        self.read += 1;
+        Ok(())
+    }
+
+    /// A change; what it does not name is that of the change before it.
+    fn change(&mut self, to: Change, body: &mut Body) -> Result<(), Refusal> {
+        self.tuning.length = to.length.unwrap_or(self.tuning.length);
+        self.tuning.delay = to.delay.unwrap_or(self.tuning.delay);
+        body.change(self.string, self.order, self.tuning, to.instant)
+    }
+
+    /// What a record does after its wait.
+    fn act(
+        &mut self,
+        record: Record,
+        body: &mut Body,
+        studio: &mut dyn Studio,
+    ) -> Result<(), Refusal> {
+        if let Some(loss) = record.loss {
+            body.loss(self.string, loss.into())?;
+        }
+        if let Some(change) = record.change {
+            self.change(change, body)?;
+        }
+        if let Some(Pluck { amplitude, count, seed }) = record.pluck {
+            let (count, seed) = (count.unwrap_or(ABSENT_COUNT), seed.unwrap_or(0));
+            body.pluck(self.string, amplitude.into(), count.into(), seed.into())?;
+            studio.pluck(amplitude);
+        }
+        Ok(())
+    }
+}
+
+/// What sounds, between two blocks.
+pub struct Player {
+    body: Body,
+    output: Vec<i32>,
+}
+
+impl Player {
+    /// Plays the scores of strings together, each to its end; a refusal comes with the index of its score.
+    pub fn play(scores: &[(usize, &[u8])], studio: &mut dyn Studio) -> Result<Player, Stop> {
+        let stop = |index: usize, refused| Stop::Refused(index, refused);
+        let opened = |refusal| stop(0, Refused { refusal, record: None });
+        let body = Body::new(scores.len()).map_err(opened)?;
+        let mut player = Player { body, output: vec![0; BLOCK] };
+        let mut parts = Vec::new();
+        for (index, &(string, bytes)) in scores.iter().enumerate() {
+            let header = |refusal| stop(index, Refused { refusal, record: None });
+            let (mut part, opening) = Part::new(string, bytes).map_err(header)?;
+            player.body.open(string, opening).map_err(header)?;
+            part.read(0).map_err(|refused| stop(index, refused))?;
+            parts.push(part);
+        }
+        let mut now = 0;
+        while let Some(next) = parts.iter().filter_map(|part| Some(part.next?.0)).min() {
+            player.wait((next - now) as usize, studio)?;
+            now = next;
+            for (index, part) in parts.iter_mut().enumerate() {
+                while let Some((_, number, record)) = part.next.filter(|(at, ..)| *at == now) {
+                    let refused = |refusal| stop(index, Refused { refusal, record: Some(number) });
+                    part.act(record, &mut player.body, studio).map_err(refused)?;
+                    part.read(now).map_err(|refused| stop(index, refused))?;
+                }
+            }
         }
         Ok(player)
     }
@@ -101,13 +167,9 @@ impl Player {
         while samples > 0 {
             let output = &mut self.output[..samples.min(BLOCK)];
             samples -= output.len();
-            match studio.input(output.len())? {
-                Some(input) => {
-                    let done = self.voice.block(input, output);
-                    done.map_err(|refusal| Failure::input(message(refusal)))?
-                }
-                None => self.voice.play(output),
-            }
+            let input = studio.input(output.len())?;
+            let done = self.body.block(input, output);
+            done.map_err(|refusal| Failure::input(message(refusal)))?;
             studio.samples(output)?;
         }
         Ok(())
@@ -126,32 +188,5 @@ impl Player {
             left -= now;
         }
         Ok(())
-    }
-
-    /// What a record does after its wait.
-    fn act(&mut self, record: &Record, studio: &mut dyn Studio) -> Result<(), Refusal> {
-        if let Some(loss) = record.loss {
-            self.voice.loss(loss.into())?;
-        }
-        if let Some(change) = record.change {
-            self.change(change)?;
-        }
-        if let Some(Pluck { amplitude, count, seed }) = record.pluck {
-            let (count, seed) = (count.unwrap_or(ABSENT_COUNT), seed.unwrap_or(0));
-            self.voice.pluck(amplitude.into(), count.into(), seed.into())?;
-            studio.pluck(amplitude);
-        }
-        Ok(())
-    }
-
-    /// A change; what it does not name is that of the change before it.
-    fn change(&mut self, Change { length, delay, instant }: Change) -> Result<(), Refusal> {
-        self.tuning.length = length.unwrap_or(self.tuning.length);
-        self.tuning.delay = delay.unwrap_or(self.tuning.delay);
-        let (length, delay) = (self.tuning.length.into(), self.tuning.delay.into());
-        match instant {
-            true => self.voice.instant(self.order, length, delay).map(|_| ()),
-            false => self.voice.announce(self.order, length, delay),
-        }
     }
 }

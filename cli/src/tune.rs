@@ -5,12 +5,10 @@ use crate::failure::{Failure, Outcome};
 use crate::files;
 use crate::kind::{self, looks_like_text};
 use crate::number::grouped;
-use crate::player::{Player, Stop, Studio};
-use crate::recording::LONGEST;
 use crate::refusal;
 use crate::score::Score;
 use crate::take::{self, Refused};
-use crate::text::{compile_with, Advance, Compiled, Fault, Instead};
+use crate::text::{compile_strings, compile_with, Advance, Compiled, Fault, Instead};
 use crate::tuning::DEFAULT_RATE;
 use jivaszte::Refusal;
 use std::path::Path;
@@ -46,12 +44,34 @@ impl Tune {
             return Err(Failure::input(format!("{name}: {words}")));
         }
         let text = utf8(&name, bytes)?;
-        let compiled = compile_with(&text, instead).map_err(|faults| {
-            let lines: Vec<String> = faults.iter().map(|fault| located(&name, fault)).collect();
-            Failure::input(lines.join("\n"))
-        })?;
+        let compiled = compile_with(&text, instead).map_err(|faults| faulty(&name, &faults))?;
+        Ok(Tune::compiled(&name, compiled))
+    }
+
+    /// A text of one string or several, each with its number from 0 on.
+    pub fn of_strings(
+        path: &Path,
+        bytes: Vec<u8>,
+        instead: Instead,
+    ) -> Outcome<Vec<(usize, Tune)>> {
+        let name = files::input_name(path);
+        if let Some(words) = kind::other(&bytes) {
+            return Err(Failure::input(format!("{name}: {words}")));
+        }
+        let text = utf8(&name, bytes)?;
+        let strings = compile_strings(&text, instead).map_err(|faults| faulty(&name, &faults))?;
+        let tune = |(string, compiled)| (string, Tune::compiled(&name, compiled));
+        Ok(strings.into_iter().map(tune).collect())
+    }
+
+    fn compiled(name: &str, compiled: Compiled) -> Tune {
         let (bytes, rate) = (compiled.score.encode(), compiled.rate);
-        Ok(Tune { name, bytes, rate, text: Some(compiled) })
+        Tune { name: String::from(name), bytes, rate, text: Some(compiled) }
+    }
+
+    /// A score that was made of what a file holds.
+    pub fn of_score(path: &Path, score: &Score, rate: u32) -> Tune {
+        Tune { name: files::input_name(path), bytes: score.encode(), rate, text: None }
     }
 
     /// The header and the records, where they can be read.
@@ -100,21 +120,6 @@ impl Tune {
         take::length(&self.bytes)
     }
 
-    /// Plays the score block by block; then lets the string ring until it is quiet, at most so many samples.
-    pub fn play(&self, studio: &mut dyn Studio, ring: Option<u64>) -> Outcome {
-        let length = self.length() + ring.unwrap_or(0);
-        if length > LONGEST {
-            let (length, most) = (grouped(length), grouped(LONGEST));
-            let words = format!("a take of {length} samples is too long: a WAV file holds {most}");
-            return Err(Failure::input(format!("{}: {words}", self.name)));
-        }
-        match Player::play(&self.bytes, studio) {
-            Ok(mut player) => ring.map_or(Ok(()), |most| player.ring(most, self.rate, studio)),
-            Err(Stop::Refused(refused)) => Err(Failure::input(self.refused(refused))),
-            Err(Stop::Failed(failure)) => Err(failure),
-        }
-    }
-
     pub fn empty(&self) -> Failure {
         Failure::input(format!("{}: the take is empty: nothing waits", self.name))
     }
@@ -143,6 +148,12 @@ impl Tune {
         let of = |index| Some(Place::Record { index, offset: records(&self.bytes).nth(index)?.0 });
         record.and_then(of).unwrap_or(Place::Header)
     }
+}
+
+/// All that is wrong with a text, each with its place.
+fn faulty(name: &str, faults: &[Fault]) -> Failure {
+    let lines: Vec<String> = faults.iter().map(|fault| located(name, fault)).collect();
+    Failure::input(lines.join("\n"))
 }
 
 fn located(name: &str, fault: &Fault) -> String {

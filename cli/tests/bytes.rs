@@ -106,12 +106,12 @@ fn played_as_it_runs() {
         }
         let run = take::run(&bytes, take::room(take::length(&bytes)).unwrap());
         let mut tape = Tape::default();
-        match (Player::play(&bytes, &mut tape), run) {
+        match (Player::play(&[(0, &bytes)], &mut tape), run) {
             (Ok(_), Ok(samples)) => {
                 assert!(tape.0 == samples, "seed {seed}");
                 played += samples.len();
             }
-            (Err(Stop::Refused(by)), Err(run)) => {
+            (Err(Stop::Refused(_, by)), Err(run)) => {
                 assert_eq!(by, run, "seed {seed}");
                 refused += 1;
             }

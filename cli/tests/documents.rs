@@ -1,7 +1,7 @@
 //! What the documents show: each line of docs/SCORES.md and of the help compiles, and each demo plays.
 
 use jivaszte_cli::take;
-use jivaszte_cli::text::{compile, Compiled};
+use jivaszte_cli::text::{compile, compile_strings, Compiled, Instead};
 use std::fs;
 use std::path::{Path, PathBuf};
 
@@ -75,7 +75,14 @@ fn the_bytes_are_those_of_the_example() {
 fn the_help_shows_a_text() {
     let lines = HELP.split("starts a comment:").nth(1).unwrap().split("docs/").next().unwrap();
     let line = |line: &str| line.trim().split("   ").next().unwrap().to_string();
-    played(&lines.lines().map(line).collect::<Vec<_>>().join("\n"));
+    let text = lines.lines().map(line).collect::<Vec<_>>().join("\n");
+    let strings = compile_strings(&text, Instead::default());
+    let strings = strings.unwrap_or_else(|faults| panic!("{faults:?}\n{text}"));
+    assert_eq!(strings.len(), 2);
+    for (_, string) in strings {
+        let bytes = string.score.encode();
+        assert!(take::run(&bytes, take::room(take::length(&bytes)).unwrap()).is_ok());
+    }
 }
 
 #[test]

@@ -7,10 +7,10 @@ use crate::files::{self, print};
 use crate::json::{list, object, string};
 use crate::meter::Meter;
 use crate::number::duration;
+use crate::piece::Piece;
 use crate::player::Studio;
 use crate::say::say;
 use crate::text::Instead;
-use crate::tune::Tune;
 use std::path::Path;
 
 impl Studio for Meter {
@@ -25,13 +25,13 @@ impl Studio for Meter {
 }
 
 /// Plays a tune and writes nothing.
-fn checked(file: &Path, instead: Instead) -> Outcome<(Tune, Meter)> {
-    let tune = Tune::load(file, instead)?;
-    let mut meter = Meter::new(tune.rate);
-    tune.play(&mut meter, None)?;
+fn checked(file: &Path, instead: Instead) -> Outcome<(Piece, Meter)> {
+    let piece = Piece::load(file, instead)?;
+    let mut meter = Meter::new(piece.rate);
+    piece.play(&mut meter, None)?;
     match meter.samples {
-        0 => Err(tune.empty()),
-        _ => Ok((tune, meter)),
+        0 => Err(piece.empty()),
+        _ => Ok((piece, meter)),
     }
 }
 
@@ -41,21 +41,29 @@ pub fn run(arguments: &Arguments) -> Outcome {
     if arguments.json() {
         return json(&name, done);
     }
-    let (tune, meter) = done?;
-    tune.remark().iter().chain(&meter.words()).for_each(|words| say(words));
-    let length = duration(meter.samples as usize, tune.rate);
-    print(&format!("{name}: {length}, nothing refused\n{name}: {}\n", enough::words(&tune)?))
+    let (piece, meter) = done?;
+    piece.remarks().iter().chain(&meter.words()).for_each(|words| say(words));
+    let length = duration(meter.samples as usize, piece.rate);
+    let mut words = format!("{name}: {length}, nothing refused\n");
+    for (string, tune) in &piece.strings {
+        let string = match piece.strings.len() {
+            1 => String::new(),
+            _ => format!("string {}: ", string + 1),
+        };
+        words.push_str(&format!("{name}: {string}{}\n", enough::words(tune)?));
+    }
+    print(&words)
 }
 
 /// What was found as JSON; the status is that of the words.
-fn json(name: &str, done: Outcome<(Tune, Meter)>) -> Outcome {
+fn json(name: &str, done: Outcome<(Piece, Meter)>) -> Outcome {
     let (fields, end) = match done {
-        Ok((tune, meter)) => {
-            let words = tune.remark().into_iter().chain(meter.words());
+        Ok((piece, meter)) => {
+            let words = piece.remarks().iter().cloned().chain(meter.words());
             let fields = vec![
                 ("accepted", String::from("true")),
                 ("samples", meter.samples.to_string()),
-                ("rate", tune.rate.to_string()),
+                ("rate", piece.rate.to_string()),
                 ("clipped", meter.clipped.to_string()),
                 ("messages", list(words.map(|words| string(&words)))),
             ];

@@ -1,16 +1,16 @@
 //! `play`: a score to a WAV file, written as it is played.
 
 use crate::arguments::Arguments;
-use crate::failure::Outcome;
+use crate::failure::{Failure, Outcome};
 use crate::files;
 use crate::meter::Meter;
 use crate::number::{counted, duration};
+use crate::piece::Piece;
 use crate::player::Studio;
 use crate::progress::Progress;
 use crate::recording::Recording;
 use crate::say::say;
 use crate::source::Source;
-use crate::tune::Tune;
 use std::path::Path;
 
 /// Where a take is measured, and written if it is not the first of two passes.
@@ -40,9 +40,9 @@ impl Studio for Desk {
     }
 }
 
-/// A tune that is played, with what comes into it and how long it may ring.
+/// A piece that is played, with what comes into it and how long it may ring.
 struct Take {
-    tune: Tune,
+    piece: Piece,
     through: Option<std::path::PathBuf>,
     ring: Option<u64>,
 }
@@ -50,10 +50,10 @@ struct Take {
 impl Take {
     fn play(&self, recording: Option<Recording>, length: u64) -> Outcome<Desk> {
         let through = self.through.as_ref();
-        let source = through.map(|path| Source::open(path, self.tune.rate)).transpose()?;
-        let meter = Meter::new(self.tune.rate);
+        let source = through.map(|path| Source::open(path, self.piece.rate)).transpose()?;
+        let meter = Meter::new(self.piece.rate);
         let mut desk = Desk { meter, source, recording, progress: Progress::new(length as usize) };
-        self.tune.play(&mut desk, self.ring)?;
+        self.piece.play(&mut desk, self.ring)?;
         desk.progress.end();
         Ok(desk)
     }
@@ -61,14 +61,14 @@ impl Take {
     /// Plays into a file whose header has the count of samples: where that is not known before, or where what
     /// is written cannot be taken back, the take is played twice.
     fn record(&self, output: &Path) -> Outcome<Desk> {
-        let mut length = self.tune.length();
+        let mut length = self.piece.length();
         if self.ring.is_some() || !files::is_replaced(output) {
             length = self.play(None, length)?.meter.samples;
         }
         if length == 0 {
-            return Err(self.tune.empty());
+            return Err(self.piece.empty());
         }
-        let recording = Recording::create(output, self.tune.rate, length)?;
+        let recording = Recording::create(output, self.piece.rate, length)?;
         let mut desk = self.play(Some(recording), length)?;
         desk.recording.take().map_or(Ok(()), Recording::finish)?;
         Ok(desk)
@@ -82,10 +82,13 @@ pub fn run(arguments: &Arguments) -> Outcome {
     files::refuse_same(file, &output)?;
     through.iter().try_for_each(|through| files::refuse_same(through, &output))?;
     files::refuse_form(&output, "WAV")?;
-    let tune = Tune::load(file, arguments.instead()?)?;
-    let ring = arguments.ring(tune.rate)?;
-    tune.remark().iter().for_each(|remark| say(remark));
-    let take = Take { tune, through, ring };
+    let piece = Piece::load(file, arguments.instead()?)?;
+    if through.is_some() && piece.strings.len() > 1 {
+        return Err(Failure::call("--through takes a tune of one string"));
+    }
+    let ring = arguments.ring(piece.rate)?;
+    piece.remarks().iter().for_each(|remark| say(remark));
+    let take = Take { piece, through, ring };
     let desk = take.record(&output)?;
     report(&output, &desk, &take);
     Ok(())
@@ -93,7 +96,7 @@ pub fn run(arguments: &Arguments) -> Outcome {
 
 /// Says on standard error what was written, how it ends, and what was clipped.
 fn report(output: &Path, Desk { meter, source, .. }: &Desk, take: &Take) {
-    let (name, rate) = (files::output_name(output), take.tune.rate);
+    let (name, rate) = (files::output_name(output), take.piece.rate);
     let length = duration(meter.samples as usize, rate);
     say(&format!("{name}: {length}; {}", meter.end()));
     if meter.ends_in_a_click() {

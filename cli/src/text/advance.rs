@@ -1,7 +1,7 @@
 //! The advance of a text that sets none: the least that keeps every change of the text within 2 units of the
 //! ideal, by the tunings' own figures.
 
-use super::compile::{compile_once, Compiled};
+use super::compile::{compile_once, Strings};
 use super::line::Fault;
 use super::values::Instead;
 use crate::click::{enough_for, MOST_ADVANCE};
@@ -30,26 +30,39 @@ pub fn needed(score: &Score) -> Option<u32> {
     enough_for(score.header.order.into(), &changed_to(score))
 }
 
+/// The changes of all strings, one string after the other.
+fn changes(strings: &Strings) -> Vec<Tuning> {
+    strings.iter().flat_map(|(_, string)| changed_to(&string.score)).collect()
+}
+
+/// The least advance that is enough for every change of every string.
+fn needed_by(strings: &Strings) -> Option<u32> {
+    strings.iter().try_fold(0, |most, (_, string)| Some(needed(&string.score)?.max(most)))
+}
+
 /// Compiles a text that sets no advance. The steps of a slide may depend on the advance, and so does then what
-/// is enough: each advance is tried with the changes that it makes.
-pub fn with_least(text: &str, instead: Instead) -> Result<Compiled, Vec<Fault>> {
+/// is enough: each advance is tried with the changes that it makes. All strings have the same.
+pub fn with_least(text: &str, instead: Instead) -> Result<Strings, Vec<Fault>> {
     let most = MOST_ADVANCE as u8;
     let at = |advance: u8| compile_once(text, Instead { advance: Some(advance), ..instead });
-    let fits = |compiled: &Compiled| {
-        let advance = compiled.score.header.advance.into();
-        needed(&compiled.score).is_some_and(|needed| needed <= advance)
+    let fits = |strings: &Strings| {
+        let advance = strings[0].1.score.header.advance.into();
+        needed_by(strings).is_some_and(|needed| needed <= advance)
+    };
+    let from = |strings: Strings, advance| -> Strings {
+        strings.into_iter().map(|(index, string)| (index, string.with_advance(advance))).collect()
     };
     let without = at(0)?;
-    let wanted = needed(&without.score).map_or(most, |needed| needed as u8);
-    let alike = at(most).is_ok_and(|with| changed_to(&with.score) == changed_to(&without.score));
+    let wanted = needed_by(&without).map_or(most, |needed| needed as u8);
+    let alike = at(most).is_ok_and(|with| changes(&with) == changes(&without));
     let tries = if alike { wanted..=wanted } else { 0..=most };
     let found = tries.filter_map(|advance| at(advance).ok()).find(fits);
     match found {
-        Some(compiled) => Ok(compiled.with_advance(Advance::Least)),
+        Some(strings) => Ok(from(strings, Advance::Least)),
         // Where changes stand too close for an advance that would be enough, the text is faulty.
         None => {
             at(wanted)?;
-            Ok(at(most)?.with_advance(Advance::Most))
+            Ok(from(at(most)?, Advance::Most))
         }
     }
 }

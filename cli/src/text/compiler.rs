@@ -15,6 +15,8 @@ use crate::tuning::Tuning;
 
 /// A score has at most so many records, which are at most 60 MiB of bytes.
 const MOST_RECORDS: u64 = 1 << 22;
+/// The seeds between the first ones of two strings.
+const SEEDS_APART: usize = 11;
 /// What the lines after a faulty `tune` are read with.
 const ANY_TUNING: Tuning = Tuning { length: 1, delay: 4_096 };
 
@@ -26,9 +28,11 @@ pub struct Origin {
     pub pluck: Spot,
 }
 
-/// The lines read so far.
+/// The lines of one string, as far as they are read.
 pub struct Compiler {
     instead: Instead,
+    /// 0 to 5.
+    string: usize,
     draft: Draft,
     pub settings: Settings,
     pub header: Option<(Header, HeaderSpots)>,
@@ -46,10 +50,11 @@ pub struct Compiler {
 }
 
 impl Compiler {
-    pub fn new(instead: Instead) -> Compiler {
+    pub fn new(instead: Instead, string: usize) -> Compiler {
         let draft = Draft::default();
         Compiler {
             instead,
+            string,
             settings: draft.settings(instead.rate),
             draft,
             header: None,
@@ -82,9 +87,32 @@ impl Compiler {
             self.heading(&word, &mut line)?;
         } else {
             self.open(ANY_TUNING, start);
-            return Err(Fault::new(start, "a line `tune A4` must stand before the first event"));
+            let tune = self.tune();
+            return Err(Fault::new(start, format!("{tune} must stand before the first event")));
         }
         line.finish()
+    }
+
+    /// What opens the string, as messages say it.
+    fn tune(&self) -> String {
+        match self.string {
+            0 => String::from("a line `tune A4`"),
+            other => format!("a line `string {} tune A4`", other + 1),
+        }
+    }
+
+    /// Samples up to the end of what was read.
+    pub fn now(&self) -> u64 {
+        self.now
+    }
+
+    /// Waits until the others are as far, so many samples from the start, where the string is opened.
+    pub fn catch_up(&mut self, now: u64, start: Spot) -> Result<(), Fault> {
+        let late = now - self.now;
+        if self.header.is_none() || late == 0 {
+            return Ok(());
+        }
+        self.push(Some(late), Record::default(), Origin { start, change: start, pluck: start })
     }
 
     fn tempo(&mut self, word: &Word, line: &mut Line) -> Result<(), Fault> {
@@ -156,11 +184,14 @@ impl Compiler {
         Ok(())
     }
 
-    /// Gives each pluck that names no seed one of its own.
+    /// Gives each pluck that names no seed one of its own; strings begin at different seeds, so that two that
+    /// are plucked together do not sound alike.
     pub fn choose_seeds(&mut self) {
         let plucks = self.seedless.iter().filter_map(|&index| self.records[index].pluck);
-        let counts: Vec<u16> = plucks.map(|pluck| pluck.count.unwrap_or(USUAL_COUNT)).collect();
-        for (&index, seed) in self.seedless.iter().zip(chosen(&counts)) {
+        let before = std::iter::repeat_n(USUAL_COUNT, SEEDS_APART * self.string);
+        let counts = before.chain(plucks.map(|pluck| pluck.count.unwrap_or(USUAL_COUNT)));
+        let seeds = chosen(&counts.collect::<Vec<u16>>()).split_off(SEEDS_APART * self.string);
+        for (&index, seed) in self.seedless.iter().zip(seeds) {
             if let Some(pluck) = &mut self.records[index].pluck {
                 pluck.seed = Some(seed);
             }

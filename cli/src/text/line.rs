@@ -43,6 +43,7 @@ impl Word<'_> {
 }
 
 /// The words of a line that are still to be read.
+#[derive(Clone)]
 pub struct Line<'a> {
     words: std::iter::Peekable<std::vec::IntoIter<Word<'a>>>,
     end: Spot,
@@ -58,6 +59,11 @@ impl<'a> Line<'a> {
 
     pub fn is_empty(&mut self) -> bool {
         self.words.peek().is_none()
+    }
+
+    /// Whether the next word is one of these.
+    pub fn starts_with(&mut self, texts: &[&str]) -> bool {
+        self.words.peek().is_some_and(|word| texts.contains(&word.text))
     }
 
     /// Where the next word stands, or the end of the line.

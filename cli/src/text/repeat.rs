@@ -1,7 +1,7 @@
 //! The lines of a text in the order in which they are done: what stands between `repeat 4` and `end` is done
 //! four times.
 
-use super::compiler::Compiler;
+use super::band::Band;
 use super::line::{Fault, Line, Spot};
 use super::values;
 use crate::number::grouped;
@@ -17,7 +17,7 @@ struct Open {
 }
 
 /// Does the lines of a text; gives all that is wrong with them. What is wrong is not repeated.
-pub fn lines(text: &str, compiler: &mut Compiler) -> Vec<Fault> {
+pub fn lines(text: &str, band: &mut Band) -> Vec<Fault> {
     let lines: Vec<&str> = text.lines().collect();
     let (mut open, mut faults): (Vec<Open>, Vec<Fault>) = (Vec::new(), Vec::new());
     let (mut at, mut done) = (0, 0);
@@ -36,7 +36,7 @@ pub fn lines(text: &str, compiler: &mut Compiler) -> Vec<Fault> {
         let word = line.accept(&["repeat", "end"]).map(|word| word.text);
         let result = match word {
             Some("repeat") => {
-                let times = times(&mut line, compiler.header.is_some());
+                let times = times(&mut line, band.is_open());
                 let left = *times.as_ref().unwrap_or(&1) - 1;
                 open.push(Open { first: at, left, spot });
                 times.map(|_| ())
@@ -50,7 +50,7 @@ pub fn lines(text: &str, compiler: &mut Compiler) -> Vec<Fault> {
                 Some(_) => line.finish(),
                 None => Err(Fault::new(spot, "no `repeat` stands before this `end`")),
             },
-            None => compiler.line(line),
+            None => band.line(line),
         };
         faults.extend(result.err());
     }
