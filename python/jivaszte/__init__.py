@@ -13,7 +13,8 @@ jivaszte.refusal.Refusal: the note is above 127
 """
 
 from .calls import Call, Performed, perform
-from .filter import coefficients, draw, effective_length, least_advance, note
+from .filter import coefficients, draw, effective_length, least_advance, note, split
+from .instrument import Frame, Instrument, STRINGS
 from .junction import Junction
 from .library import VERSION, version
 from .refusal import Refusal
@@ -23,7 +24,7 @@ from .wav import wav_read, wav_write
 
 __version__ = VERSION
 __all__ = [
-    "Call", "Junction", "Performed", "Record", "Refusal", "Take", "VERSION", "Voice", "coefficients", "draw",
-    "effective_length", "least_advance", "merge", "note", "panel", "perform", "play", "records", "version", "wav_read",
-    "wav_write",
+    "Call", "Frame", "Instrument", "Junction", "Performed", "Record", "Refusal", "STRINGS", "Take", "VERSION", "Voice",
+    "coefficients", "draw", "effective_length", "least_advance", "merge", "note", "panel", "perform", "play", "records",
+    "split", "version", "wav_read", "wav_write",
 ]

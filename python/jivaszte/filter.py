@@ -9,6 +9,7 @@ _coefficients = routine("coefficients")
 _effective_length = routine("effective_length")
 _least_advance = routine("least_advance")
 _note = routine("note")
+_split = routine("split")
 _draw = routine("draw")
 
 
@@ -42,6 +43,14 @@ def note(order, rate, number):
     NOTE, NOTE_LENGTH."""
     length, delay = c_uint32(), c_uint32()
     accept(_note(*words(order, rate, number), byref(length), byref(delay)))
+    return length.value, delay.value
+
+
+def split(order, samples):
+    """The length and the delay of a delay in samples, a float, rounded to 1/4,096 of a sample. Refuses by ORDER, NOT_FINITE,
+    NOTE_LENGTH."""
+    length, delay = c_uint32(), c_uint32()
+    accept(_split(*words(order), samples, byref(length), byref(delay)))
     return length.value, delay.value
 
 

@@ -8,7 +8,7 @@ import ctypes
 import operator
 import os
 import pathlib
-from ctypes import POINTER, c_int32, c_size_t, c_uint8, c_uint32
+from ctypes import POINTER, c_float, c_int32, c_size_t, c_uint8, c_uint32
 
 VERSION = "0.1.0"
 SONAME = "libjivaszte.so." + VERSION.split(".", maxsplit=1)[0]
@@ -40,6 +40,21 @@ _PARAMETERS = {
     "packed_store": [_HEAD, _LINE, _U8, c_size_t, _SIZE],
     "packed_load": [_HEAD, _LINE, _U8, c_size_t],
     "panel": [_U8, c_size_t, _U32, _U32, _U32],
+    "strings_reset": [_HEAD, _LINE],
+    "strings_open": [_HEAD, _LINE] + [c_uint32] * 6,
+    "strings_loss": [_HEAD, c_uint32, c_uint32],
+    "strings_pluck": [_HEAD] + [c_uint32] * 4,
+    "strings_announce": [_HEAD, c_uint32] + _TUNING,
+    "strings_instant": [_HEAD, _LINE, c_uint32] + _TUNING + [_U32],
+    "strings_ask": [_HEAD, c_uint32] + _TUNING,
+    "strings_commit": [_HEAD, c_uint32],
+    "strings_withdraw": [_HEAD, c_uint32],
+    "strings_mix": [_HEAD, _LINE, _I32, c_size_t, _I32, c_size_t],
+    "strings_play": [_HEAD, _LINE, _I32, c_size_t],
+    "strings_event_delay": [_HEAD, c_uint32, c_float],
+    "strings_event_loss": [_HEAD, c_uint32, c_float],
+    "strings_frame": [_HEAD, _LINE, c_float, _U32],
+    "split": [c_uint32, c_float, _U32, _U32],
     "run": [_U8, c_size_t, _I32, c_size_t, _SIZE, _SIZE],
     "merge": [_U8, c_size_t, _U8, c_size_t, _U8, c_size_t, _SIZE],
     "junction_open": [_U32] + [c_uint32] * 4,
@@ -48,7 +63,15 @@ _PARAMETERS = {
     "wav_write": [c_uint32, _I32, c_size_t, _U8, c_size_t, _SIZE],
     "wav_read": [_U8, c_size_t, _I32, c_size_t, _U32, _SIZE],
 }
-_RETURNS = {"draw": c_int32, "record": c_size_t}
+
+
+class _Frame(ctypes.Structure):
+    """A frame as C returns it."""
+
+    _fields_ = [("left", c_float), ("right", c_float)]
+
+
+_RETURNS = {"draw": c_int32, "record": c_size_t, "strings_reset": None, "strings_frame": _Frame}
 
 
 def _places():

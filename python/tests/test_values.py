@@ -7,7 +7,7 @@ import threading
 import unittest
 
 import jivaszte
-from jivaszte import samples, voice
+from jivaszte import instrument, samples, voice
 
 
 def opened(advance=64):
@@ -136,7 +136,7 @@ class Voices(unittest.TestCase):
 
 class Documents(unittest.TestCase):
     def test_examples(self):
-        for module in (jivaszte, voice):
+        for module in (jivaszte, voice, instrument):
             failed, tried = doctest.testmod(module)
             self.assertEqual(failed, 0)
             self.assertGreater(tried, 2)
