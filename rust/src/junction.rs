@@ -28,8 +28,7 @@ impl Junction {
     pub fn open(left: u32, right: u32, delay: u32, advance: u32) -> Result<Junction, Refusal> {
         let mut words = [0; 16];
         // SAFETY: an opening asks nothing of the memory, and leaves a junction in it.
-        let number =
-            unsafe { c::jivaszte_junction_open(&mut words, left, right, delay, advance) };
+        let number = unsafe { c::jivaszte_junction_open(&mut words, left, right, delay, advance) };
         Refusal::of(number).map(|()| Junction { words })
     }
 
@@ -46,7 +45,13 @@ impl Junction {
     pub fn sample(&mut self, from_left: i32, from_right: i32) -> Result<(i32, i32), Refusal> {
         let (mut right, mut left) = (0, 0);
         let number = unsafe {
-            c::jivaszte_junction_sample(&mut self.words, from_left, from_right, &mut right, &mut left)
+            c::jivaszte_junction_sample(
+                &mut self.words,
+                from_left,
+                from_right,
+                &mut right,
+                &mut left,
+            )
         };
         Refusal::of(number).map(|()| (right, left))
     }
