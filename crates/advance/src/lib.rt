@@ -1,5 +1,7 @@
 // The least advance that keeps a change to a tuning within a wanted distance of the ideal filter, by the tuning's own
 // figure. Contracts cite specs/Least.antt.
+#![tactic(auto)]
+
 ghost use Rattle.std.specs.Prelude.{◌≡◌, ◌+◌, ◌≤◌, nat_abs};
 ghost use Rattle.refusal.specs.Orders.{orders};
 ghost use Rattle.advance.specs.Least.{first, least_advance};
@@ -10,7 +12,7 @@ use integer::magnitude;
 pub const NO_ADVANCE: u32 = 32;
 
 // What `least` returns: refusal is 0 for success; na is 0 where it is refused.
-#[derive(Drop)]
+#[derive(Clone, Copy)]
 pub struct Advance {
     pub refusal: u32,
     pub na: u32,

@@ -1,5 +1,7 @@
 // The allpass filter of order 1, 2 or 3, its eliminator, and the effective length of its response.
 // Contracts cite the filter of order N over lists (specs/Allpass.antt), held in structs (specs/Stored.antt).
+#![tactic(auto)]
+
 pub mod filter;
 mod multiples;
 pub mod products;
@@ -12,7 +14,7 @@ ghost use Rattle.allpass.specs.Length.{effective_length};
 ghost use Rattle.allpass.specs.Stored.{held, stored};
 
 // v1, v2 and v3; 0 past the order.
-#[derive(Drop)]
+#[derive(Clone, Copy)]
 pub struct State {
     pub v1: i64,
     pub v2: i64,
@@ -20,7 +22,7 @@ pub struct State {
 }
 
 // What `effective_length` returns: refusal is 0 for success.
-#[derive(Drop)]
+#[derive(Clone, Copy)]
 pub struct Measured {
     pub refusal: u32,
     pub length: u32,

@@ -15,7 +15,7 @@ use integer::toward::more;
 use thiran::formula::Coefficients;
 
 // A1, A2 and A3 times a number; 0 past the order.
-#[derive(Drop)]
+#[derive(Clone, Copy)]
 pub struct Multiples {
     pub x1: i64,
     pub x2: i64,

@@ -18,7 +18,7 @@ use thiran::formula::Coefficients;
 
 // Of a state v1, v2, v3: newest is A1·v1, older A2·v2 + A3·v3, next A2·v1 + A3·v2, third A3·v1; turned is what
 // the next output takes beside AN·w: A1·v1 in order 2, A2·v1 + A1·v2 in order 3. Order 1 has R(A1·v1), in cut.
-#[derive(Drop)]
+#[derive(Clone, Copy)]
 pub struct Products {
     pub cut: i64,
     pub newest: i64,
@@ -29,7 +29,7 @@ pub struct Products {
 }
 
 // y is the output before it is clipped, state the next state, and products those of it.
-#[derive(Drop)]
+#[derive(Clone, Copy)]
 pub struct Carried {
     pub y: Value,
     pub state: State,

@@ -15,7 +15,7 @@ use integer::{Value, clip};
 use thiran::formula::Coefficients;
 
 // y is the output, and state the next state.
-#[derive(Drop)]
+#[derive(Clone, Copy)]
 pub struct Filtered {
     pub y: Value,
     pub state: State,

@@ -1,5 +1,7 @@
 // The routines that neither take nor open a voice: each is called, and what it returned is printed behind the
 // line's name. The record's nine numbers are lent with 77 at each place.
+#![tactic(auto)]
+
 ghost use Rattle.std.specs.Prelude.{◌≤◌, length};
 ghost use Rattle.request.specs.InLine.{InLine};
 

@@ -1,5 +1,7 @@
 // A block: an output for each input, rendered in place. Zeros that come in need not be copied to the output.
 // Both refusals come before anything is done.
+#![tactic(auto)]
+
 ghost use Rattle.std.specs.Prelude.{◌≡◌, ◌≤◌, length};
 ghost use Rattle.integer.specs.Rounding.{M};
 ghost use Rattle.samples.specs.Samples.{loudest};

@@ -1,5 +1,7 @@
 // The changes of order, length and delay: announced, asked for, and instant.
 // An eliminator starts at rest; an instant one is run over samples that the line still holds.
+#![tactic(auto)]
+
 ghost use Rattle.std.specs.Prelude.{◌≡◌, ◌≤◌, ◌<◌, length};
 ghost use Rattle.integer.specs.Rounding.{M};
 ghost use Rattle.allpass.specs.Bounds.{Within};
@@ -24,21 +26,21 @@ use voice::{Answer, Filter, Head, Kind, Waiting, resting, settle, untuned, with}
 pub mod asked;
 
 // What an instant change returns: count is the number of samples that its eliminator was run over.
-#[derive(Drop)]
+#[derive(Clone, Copy)]
 pub struct Changed {
     pub answer: Answer,
     pub count: u32,
 }
 
 // What a run over stored samples left: the eliminator, and how many samples it took.
-#[derive(Drop)]
+#[derive(Clone, Copy)]
 pub struct Run {
     pub filter: Filter,
     pub count: u32,
 }
 
 // What a change that is to wait starts with: an eliminator at rest, or the filter in force where it is refused.
-#[derive(Drop)]
+#[derive(Clone, Copy)]
 pub struct Start {
     pub refusal: u32,
     pub filter: Filter,

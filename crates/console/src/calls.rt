@@ -9,7 +9,7 @@ use request::lists::samples;
 use voice::{Answer, Head};
 
 // What a call returned: its number, the count of an instant change, and the voice's head.
-#[derive(Drop)]
+#[derive(Clone, Copy)]
 pub struct Made {
     pub refusal: u32,
     pub count: u32,

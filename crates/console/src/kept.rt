@@ -13,7 +13,7 @@ pub const ROOM: usize = 1_048_577;
 
 // What is kept from one read to the next: the voice's head, the place in the buffer, the number of the line that
 // comes next, how many of its bytes the room holds, and whether it is too long.
-#[derive(Drop)]
+#[derive(Clone, Copy)]
 pub struct Kept {
     pub head: Head,
     pub at: usize,

@@ -1,6 +1,8 @@
 // The console: answers each line of standard input by a line, as it comes, by calls on one voice, one
 // junction and six strings.
 // A read or a write that failed is said on standard error, and ends it.
+#![tactic(auto)]
+
 ghost use Rattle.std.specs.Prelude.{◌≡◌, ◌≤◌, length};
 ghost use Rattle.voice.specs.Valid.{Valid};
 ghost use Rattle.tube.specs.Valid.{Valid as Joined};

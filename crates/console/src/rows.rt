@@ -12,7 +12,7 @@ use request::kinds::{ANNOUNCE, ASK, COMMIT, INSTANT, LOSS, OPEN, PLUCK};
 use store::Kept;
 
 // What a call returned: its number, and the count of an instant change.
-#[derive(Drop)]
+#[derive(Clone, Copy)]
 pub struct Done {
     pub refusal: u32,
     pub count: u32,

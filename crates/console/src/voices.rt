@@ -17,7 +17,7 @@ use request::kinds::{BLOCK, LINE, LOAD, MERGE, PANEL, RUN, STATE, STORE};
 use voice::Head;
 
 // What is left after a line: the voice's head, and the place in the buffer.
-#[derive(Drop)]
+#[derive(Clone, Copy)]
 pub struct Turn {
     pub head: Head,
     pub at: usize,

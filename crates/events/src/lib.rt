@@ -1,12 +1,14 @@
 // Host events (document 02, L13): a delay in samples or a loss, as f32, on one of six strings. A delay is an
 // announced change with the string's order kept; a loss is the string's loss call. Contracts cite
 // specs/Events.antt.
+#![tactic(auto)]
+
 ghost use Rattle.std.specs.Prelude.{◌≡◌, [], ◌≤◌, get_or};
 ghost use Rattle.strings.specs.Rows.{Heads};
 ghost use Rattle.events.specs.declared.Event.TheVariants.{Delay as DelayOf, Loss as LossOf};
 ghost use Rattle.events.specs.Events.{Handled};
 
-#[derive(Drop)]
+#[derive(Clone, Copy)]
 pub enum Event {
     Delay(f32),
     Loss(f32),

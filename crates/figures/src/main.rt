@@ -1,5 +1,7 @@
 // Prints the checked figures of coefficients, noise, notes and effective length, by the routines. That the
 // definitions give document 01's starred ones, and those that L5 adds, are specs/Starred.antt and Added.antt.
+#![tactic(auto)]
+
 use libc::STDOUT_FILENO;
 
 fn number(n: u32) {

@@ -6,7 +6,7 @@ ghost use Rattle.floats.specs.Sample.{leaves};
 use crate::sample::leave;
 
 #[repr(C)]
-#[derive(Drop)]
+#[derive(Clone, Copy)]
 pub struct Frame {
     pub left: f32,
     pub right: f32,

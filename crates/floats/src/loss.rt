@@ -7,7 +7,7 @@ use crate::rounding::{is_finite, nearest_half, scale};
 use refusal::{FLOAT_RANGE, MOST_LOSS, NOT_FINITE};
 
 // What `enter` returns: refusal is 0 for success, and g is 0 where the float is refused.
-#[derive(Drop)]
+#[derive(Clone, Copy)]
 pub struct Loss {
     pub refusal: u32,
     pub g: u32,

@@ -1,5 +1,7 @@
 // One record of a score on a voice, but for its wait: what it sets, changes and plucks.
 // A record is the nine numbers that reading it gives.
+#![tactic(auto)]
+
 ghost use Rattle.std.specs.Prelude.{◌≡◌, true, false, ◌↔◌, List, [], ◌∷◌, ℤ};
 ghost use Rattle.rule.specs.Calls.{announce as Announce};
 ghost use Rattle.rule.specs.State.{State};

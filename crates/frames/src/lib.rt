@@ -1,5 +1,7 @@
 // Frames (document 02, L13): one sample as f32 goes to all six strings, and the two sides come back as f32.
 // Each string takes one step of the voice by itself: no buffer is filled. Contracts cite specs/Frames.antt.
+#![tactic(auto)]
+
 ghost use Rattle.std.specs.Prelude.{◌≡◌, ◌≤◌, nat_abs, ◌+ℤ◌};
 ghost use Rattle.integer.specs.Rounding.{M, clip as Clip};
 ghost use Rattle.voice.specs.Valid.{Valid};

@@ -1,5 +1,7 @@
 // What is said of the console's calls: in the answer to a line that is wrong, and in the answer to `help`.
 // Contracts cite specs/Said.antt.
+#![tactic(auto)]
+
 ghost use Rattle.std.specs.Prelude.{◌≡◌, ◌-◌, ◌≤◌};
 ghost use Rattle.help.specs.Said.{Said, Wrong, Error, Listed, Rows, up_to};
 

@@ -1,12 +1,14 @@
 // Standard input, a part at a time: one read takes what is there, and puts it behind what a room holds.
 // Contracts say how much the room then holds, and cannot say which bytes were read.
+#![tactic(auto)]
+
 ghost use Rattle.std.specs.Prelude.{◌≡◌, ◌+◌, ◌≤◌, length, drop};
 ghost use Rattle.std.proofs.Math.Seq.{paste};
 
 use libc::STDIN_FILENO;
 
 // How many bytes the room holds, as many as before at the end of the input, and whether the read failed.
-#[derive(Drop)]
+#[derive(Clone, Copy)]
 pub struct Came {
     pub held: usize,
     pub failed: bool,

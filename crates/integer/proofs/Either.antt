@@ -61,4 +61,4 @@ module _ (u : ℤ) where
   straight_small h = omega (arith, R-abs u, div-le_self (nat_abs u) 65536)
 
   pub turned_small : nat_abs u ≤ 2 ^ 42 → nat_abs n ≤ 2 ^ 42
-  turned_small h = omega (arith, abs-- (pos 0) (R u), straight-small h)
+  turned_small h = omega (arith, abs-- (pos 0) (R u), straight_small h)

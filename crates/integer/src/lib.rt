@@ -1,5 +1,7 @@
 // Signed whole numbers: clipping, division toward zero, floor division and rounding built on it, wrapping product.
 // A signed number goes between functions in a struct, so that a contract reads the number and not its bits.
+#![tactic(auto)]
+
 pub mod arithmetic;
 pub mod signs;
 pub mod toward;
@@ -7,7 +9,7 @@ pub mod toward;
 ghost use Rattle.std.specs.Prelude.{◌≡◌, ◌+◌, ◌*◌, ◌%◌, ◌^◌, ◌≤◌, ◌<◌, nat_abs};
 ghost use Rattle.integer.specs.Rounding.{clip as Clip, floor, nearest};
 
-#[derive(Drop)]
+#[derive(Clone, Copy)]
 pub struct Value {
     pub n: i64,
 }

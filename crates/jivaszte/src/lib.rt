@@ -1,5 +1,7 @@
 // The routines for programs in other languages, by the C calling convention, as include/jivaszte.h has them.
 // A contract cites the called routine's definition; a refusal is returned, the rest is left in what is lent.
+#![tactic(auto)]
+
 ghost use Rattle.std.specs.Prelude.{◌≡◌, ◌≤◌, length, drop};
 ghost use Rattle.thiran.specs.Answers.{design};
 ghost use Rattle.allpass.specs.Length.{effective_length};

@@ -1,6 +1,8 @@
 // A voice in memory that a host keeps: 27 words, which crate packed reads and writes, and a line. Each
 // routine is one call of document 01 or 02 on it; what it requires is the voice's invariant, which Open
 // gives and each routine hands on. In `change`, the changes; in `blocks`, the samples.
+#![tactic(auto)]
+
 ghost use Rattle.rule.specs.Calls.{loss as Loss, pluck as Plucking};
 ghost use Rattle.voice.specs.Valid.{Fit};
 ghost use Rattle.voice.specs.Called.{Called};

@@ -1,5 +1,7 @@
 // The delay line of a voice: an array used as a ring, lent for each sample and never copied.
 // Contracts speak of its samples newest first, `ring`, and not of where they stand.
+#![tactic(auto)]
+
 ghost use Rattle.std.specs.Prelude.{◌≡◌, ◌∷◌, ◌+◌, ◌-◌, ◌%◌, ◌≤◌, ◌<◌, pos, nat_abs, get_or, take};
 ghost use Rattle.integer.specs.Rounding.{M};
 ghost use Rattle.line.specs.Ring.{ring, Apart};

@@ -1,5 +1,7 @@
 // One routine that performs a list of calls, in words, on a fresh voice: whatever calls, in whatever order.
 // Contracts cite specs/Performed.antt; demand 3 holds of its output for every list, specs/Clicks.antt.
+#![tactic(auto)]
+
 ghost use Rattle.list.specs.Performed.{Performs};
 
 use open::open;
@@ -10,7 +12,7 @@ mod words;
 
 // What `perform` returns: refusal is 31 where the words are not in form, else 0; opening is the number that
 // Open returned; written is how many samples the calls put out.
-#[derive(Drop)]
+#[derive(Clone, Copy)]
 pub struct Performed {
     pub refusal: u32,
     pub opening: u32,

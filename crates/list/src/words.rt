@@ -5,7 +5,7 @@ ghost use Rattle.list.specs.Words.{takes as takes_of, lends as Lends, fits as fi
 
 // An item of a list is a call: its four words, a kind and three numbers, with how many samples it takes from
 // the input and how long an output it lends.
-#[derive(Drop)]
+#[derive(Clone, Copy)]
 pub struct Item {
     pub kind: u32,
     pub a: u32,

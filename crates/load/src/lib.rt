@@ -1,5 +1,7 @@
 // Loading a stored voice, and the panel that reads part of one: document 02, L10. Both run the whole check first, and
 // write nothing before it. Contracts cite crate form.
+#![tactic(auto)]
+
 ghost use Rattle.std.specs.Prelude.{◌≡◌, ℕ, ◌+◌, ◌*◌, ◌^◌, ◌≤◌, ◌<◌, pos, length, get_or, set};
 ghost use Rattle.form.specs.Loads.{loads};
 ghost use Rattle.form.specs.Parts.{value};
@@ -17,7 +19,7 @@ mod limits;
 mod words;
 
 // What the panel shows: length, delay and loss.
-#[derive(Drop)]
+#[derive(Clone, Copy)]
 pub struct Shown {
     pub refusal: u32,
     pub length: u32,

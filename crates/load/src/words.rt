@@ -7,7 +7,7 @@ ghost use Rattle.load.specs.Words.{read as Read, Placed, ChangeRead, numbers_of}
 use octets::part;
 
 // Where each part starts behind the tuning's, and where the form ends.
-#[derive(Drop)]
+#[derive(Clone, Copy)]
 pub struct Offsets {
     pub loss: usize,
     pub advance: usize,
@@ -20,7 +20,7 @@ pub struct Offsets {
 }
 
 // A waiting change.
-#[derive(Drop)]
+#[derive(Clone, Copy)]
 pub struct Change {
     pub kind: u32,
     pub order: u32,
@@ -32,7 +32,7 @@ pub struct Change {
     pub v3: u32,
 }
 
-#[derive(Drop)]
+#[derive(Clone, Copy)]
 pub struct Words {
     pub order: u32,
     pub length: u32,
@@ -49,7 +49,7 @@ pub struct Words {
     pub noise: u32,
 }
 
-#[derive(Drop)]
+#[derive(Clone, Copy)]
 struct Three {
     a: u32,
     b: u32,

@@ -1,5 +1,7 @@
 // The loops over a block's samples while no pluck sounds: with nothing waiting, and with a change that waits.
 // Each renders as many samples of a stretch as it can, and tells how many are done. `plucked` has a pluck's.
+#![tactic(auto)]
+
 ghost use Rattle.std.specs.Prelude.{◌≡◌, ◌+◌, ◌≤◌, ◌<◌, length};
 ghost use Rattle.integer.specs.Rounding.{M};
 ghost use Rattle.samples.specs.Samples.{loudest};
@@ -20,14 +22,14 @@ pub mod plucked;
 mod run;
 
 // A voice once the first samples of a buffer are rendered, so many as are done.
-#[derive(Drop)]
+#[derive(Clone, Copy)]
 pub struct Progress {
     pub head: Head,
     pub done: usize,
 }
 
 // What a loop leaves: the filter's state, the last output, and how many samples are done.
-#[derive(Drop)]
+#[derive(Clone, Copy)]
 pub struct Ran {
     pub state: State,
     pub last: Value,
@@ -35,7 +37,7 @@ pub struct Ran {
 }
 
 // The same with the state of an eliminator, which is not read where none runs.
-#[derive(Drop)]
+#[derive(Clone, Copy)]
 pub struct Led {
     pub ran: Ran,
     pub next: State,

@@ -20,7 +20,7 @@ use step::sound::sound;
 use voice::{Head, Pluck};
 
 // What the loop leaves: the filter's state, the last output, and what is left of the pluck.
-#[derive(Drop)]
+#[derive(Clone, Copy)]
 pub struct Sung {
     pub state: State,
     pub last: Value,

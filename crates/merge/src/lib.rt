@@ -1,5 +1,7 @@
 // Two scores into one: document 02, L14. Each score is played alone on its outline; then both together, without a
 // write, to see whether the merge plays and fits; then they are written. Contracts cite specs/ and crate timeline.
+#![tactic(auto)]
+
 ghost use Rattle.std.specs.Prelude.{◌≡◌, ◌≤◌, length, take};
 ghost use Rattle.octets.specs.Octets.{laid};
 ghost use Rattle.outline.specs.Struct.{outline_of, EndsAs};
@@ -19,14 +21,14 @@ use header::header_number;
 use walk::walk;
 
 // What a merge returns: its refusal, and how many bytes it has.
-#[derive(Drop)]
+#[derive(Clone, Copy)]
 pub struct MergeEnd {
     pub refusal: u32,
     pub length: usize,
 }
 
 // A score on the way: where its next record starts, the samples since its last one, and its course.
-#[derive(Drop)]
+#[derive(Clone, Copy)]
 pub struct Side {
     pub at: usize,
     pub since: u32,
@@ -34,14 +36,14 @@ pub struct Side {
 }
 
 // Both scores.
-#[derive(Drop)]
+#[derive(Clone, Copy)]
 pub struct Pair {
     pub first: Side,
     pub second: Side,
 }
 
 // Which score the next record is from, and how many samples the merge waits for it.
-#[derive(Drop)]
+#[derive(Clone, Copy)]
 pub struct Choice {
     pub first: bool,
     pub wait: u32,

@@ -2,6 +2,8 @@
 // clipped sum of the six (document 02, L11). The block goes by parts of 64 samples: each string renders a
 // part by the voice's own loops into a local array, which is added to the sums; they are clipped once. A
 // sum of six samples fits 32 bits.
+#![tactic(auto)]
+
 ghost use Rattle.std.specs.Prelude.{◌≡◌, pos, length, replicate};
 ghost use Rattle.instrument.specs.Strings.{mix as Mix, mix_into};
 ghost use Rattle.strings.specs.Rows.{strings_of, Voices, Played};

@@ -1,12 +1,14 @@
 // The noise generator of a pluck: a state that is lent for each draw, and left advanced.
 // Contracts cite specs/Noise.antt.
+#![tactic(auto)]
+
 ghost use Rattle.std.specs.Prelude.{◌≡◌};
 ghost use Rattle.noise.specs.Noise.{next as Next, value, drawn};
 
 use integer::wrapping_mul_u32;
 use std::num::wrapping_add_u32;
 
-#[derive(Drop)]
+#[derive(Clone, Copy)]
 pub struct Drawn {
     pub value: i32,
     pub state: u32,
@@ -31,7 +33,7 @@ fn moved(state: u32) -> Drawn
 }
 
 // A noise state that a caller lends, and finds advanced.
-#[derive(Drop)]
+#[derive(Clone, Copy)]
 pub struct Noise {
     pub state: u32,
 }

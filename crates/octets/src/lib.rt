@@ -1,5 +1,7 @@
 // Numbers in bytes, low byte first, put into a slice and read from one at any place and width.
 // Contracts cite specs/Octets.antt.
+#![tactic(auto)]
+
 ghost use Rattle.std.specs.Prelude.{◌≡◌, ℕ, ◌+◌, ◌*◌, ◌^◌, ◌≤◌, ◌<◌, nat_abs, length, take, drop};
 ghost use Rattle.octets.specs.Octets.{number, bytes, bits as Bits, signed as Signed, laid};
 

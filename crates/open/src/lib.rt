@@ -1,5 +1,7 @@
 // Open: a resting voice, or document 01's voice of a refused opening; in `calls`, loss and pluck.
 // A voice is a head, which goes by value, and a line, which is lent: no call copies it.
+#![tactic(auto)]
+
 ghost use Rattle.std.specs.Prelude.{◌≡◌};
 ghost use Rattle.refusal.specs.Limits.{refusal};
 ghost use Rattle.refusal.specs.Returned.{AllKept};
@@ -15,13 +17,13 @@ use voice::{Head, Pluck, Waiting, resting, untuned};
 
 pub mod calls;
 
-#[derive(Drop)]
+#[derive(Clone, Copy)]
 pub struct Voice {
     pub head: Head,
     pub line: [i32; 2112],
 }
 
-#[derive(Drop)]
+#[derive(Clone, Copy)]
 pub struct Opened {
     pub refusal: u32,
     pub voice: Voice,

@@ -1,5 +1,7 @@
 // What a run of a score looks at of its voice: L and d in force, and what waits. No sample is worked out, so the
 // time does not grow with the waits. Contracts cite specs/Outline.antt.
+#![tactic(auto)]
+
 ghost use Rattle.std.specs.Prelude.{◌≡◌, ℕ};
 ghost use Rattle.refusal.specs.Limits.{refusal as Refusal};
 ghost use Rattle.rule.specs.Voice.{tuning as Tuning};
@@ -16,14 +18,14 @@ use record::{
 use refusal::tested;
 
 // What a change sets.
-#[derive(Drop)]
+#[derive(Clone, Copy)]
 pub struct Span {
     pub length: u32,
     pub delay: u32,
 }
 
 // L and d in force; those of a change that waits; and the samples that it still takes, 0 where none waits.
-#[derive(Drop)]
+#[derive(Clone, Copy)]
 pub struct Course {
     pub span: Span,
     pub next: Span,
@@ -31,7 +33,7 @@ pub struct Course {
 }
 
 // What a record comes to on a course: its number, the L and d of its change, and the course after it.
-#[derive(Drop)]
+#[derive(Clone, Copy)]
 pub struct Effect {
     pub refusal: u32,
     pub span: Span,
@@ -39,7 +41,7 @@ pub struct Effect {
 }
 
 // How a run ends: its number and its place.
-#[derive(Drop)]
+#[derive(Clone, Copy)]
 pub struct RunEnd {
     pub refusal: u32,
     pub place: usize,

@@ -1,5 +1,7 @@
 // The head of a voice as 27 words that a host lends: read when a call begins, written when it ends.
 // specs/Words.antt says which head the words are.
+#![tactic(auto)]
+
 ghost use Rattle.std.specs.Prelude.{◌≡◌};
 ghost use Rattle.voice.specs.Valid.{Fit};
 ghost use Rattle.packed.specs.Words.{head_of};

@@ -10,7 +10,7 @@ use integer::arithmetic::plus;
 use voice::{Filter, Kind, Waiting};
 
 // The nine words of a filter.
-#[derive(Drop)]
+#[derive(Clone, Copy)]
 pub struct FilterWords {
     pub order: u32,
     pub length: u32,
@@ -24,7 +24,7 @@ pub struct FilterWords {
 }
 
 // The eleven words of what waits.
-#[derive(Drop)]
+#[derive(Clone, Copy)]
 pub struct WaitingWords {
     pub kind: u32,
     pub filter: FilterWords,

@@ -1,5 +1,7 @@
 // A note's length and delay at a sampling rate: the octave's table, the period T, and its split.
 // Contracts cite specs/Pitch.antt.
+#![tactic(auto)]
+
 ghost use Rattle.std.specs.Prelude.{◌≡◌, [], ◌∷◌, ◌+◌, ◌*◌, ◌/◌, ◌^◌, ◌≤◌, ◌<◌, pos, get_or};
 ghost use Rattle.integer.specs.Parts.{up};
 ghost use Rattle.integer.specs.Rounding.{nearest};
@@ -16,7 +18,7 @@ const OCTAVE: [u64; 12] = [
 ];
 
 // What `note` returns: refusal is 0 for success.
-#[derive(Drop)]
+#[derive(Clone, Copy)]
 pub struct Pitch {
     pub refusal: u32,
     pub length: u32,

@@ -1,6 +1,8 @@
 // Plays a score: reads its bytes from standard input, the first 32,768 of them, and prints each sample that
 // the run wrote on a line, then `end`, number, place, samples. A read or a write that failed is said on standard
 // error; nothing is played where the read failed.
+#![tactic(auto)]
+
 ghost use Rattle.std.specs.Prelude.{◌≤◌};
 
 use input::full;

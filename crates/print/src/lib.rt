@@ -1,6 +1,8 @@
 // What a program prints: gathered in a buffer, which goes to standard output when little room is left in it.
 // A place is how many bytes the buffer holds; 4,097 says that standard output took no more. Each function
 // that appends says what the buffer holds afterwards (specs/Printed.antt).
+#![tactic(auto)]
+
 ghost use Rattle.std.specs.Prelude.{[], ◌∷◌, ◌≤◌, take};
 ghost use Rattle.print.specs.Printed.{Went, MadeRoom, Printed, Number, Numbers, Signed, Signeds, Hex, Hexes, Line};
 

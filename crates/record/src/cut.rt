@@ -32,7 +32,7 @@ fn past(w: u64, map: u32, unit: u32) -> u64
 }
 
 // The two words of a record: low is that of wait, L, d and G, high that of amplitude, count and seed.
-#[derive(Drop)]
+#[derive(Clone, Copy)]
 pub struct Words {
     pub low: u64,
     pub high: u64,

@@ -1,5 +1,7 @@
 // One record of a score: its bit map, its fields, and the part of the score after it.
 // The whole record is tested before any field is read.
+#![tactic(auto)]
+
 ghost use Rattle.std.specs.Prelude.{◌≡◌, true, false, ◌∷◌, ◌+◌, ◌*◌, ◌/◌, ◌%◌, ◌≤◌, ◌<◌, length, drop, replicate};
 ghost use Rattle.record.specs.Record.{bytes as bytes_of, word as Word, without as Without};
 ghost use Rattle.record.specs.Record.{map_of, ill_formed, record_number};

@@ -1,5 +1,7 @@
 // The numbers by which the calls of documents 01 and 02 refuse, and the tests that give them, one after the other.
 // What a call returns is the first number, in the order listed, whose test is met (specs/Limits.antt).
+#![tactic(auto)]
+
 ghost use Rattle.std.specs.Prelude.{◌≡◌};
 ghost use Rattle.refusal.specs.Limits.{outside as Outside};
 ghost use Rattle.refusal.specs.Returned.{Tests};

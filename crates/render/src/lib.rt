@@ -1,6 +1,8 @@
 // Rendering in place, for blocks and the waits of a score: each sample is an input or none comes in, and becomes
 // the output.
 // A buffer is rendered in stretches, each by the loop that fits what waits and what sounds.
+#![tactic(auto)]
+
 ghost use Rattle.std.specs.Prelude.{◌≡◌, false, List, ◌+◌, ◌≤◌, ◌<◌, ℤ, pos, length, replicate};
 ghost use Rattle.integer.specs.Rounding.{M};
 ghost use Rattle.samples.specs.Samples.{loudest};

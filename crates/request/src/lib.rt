@@ -1,5 +1,7 @@
 // What a line of the console asks: its kind, the numbers that follow its name, and where its list starts.
 // The whole line is read before anything is done. Contracts cite specs/InLine.antt.
+#![tactic(auto)]
+
 ghost use Rattle.std.specs.Prelude.{◌≡◌, ◌≤◌, length};
 ghost use Rattle.request.specs.InLine.{InLine};
 
@@ -17,7 +19,7 @@ use words::word;
 // on_string is whether it is a call on a string, and string is which, else 0; places is how many samples or bytes
 // are lent or shown, list is where the list of samples or bytes starts, and a to e are the numbers that follow the
 // name, 0 where there are fewer.
-#[derive(Drop)]
+#[derive(Clone, Copy)]
 pub struct Request {
     pub kind: u32,
     pub on_string: bool,

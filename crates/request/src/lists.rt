@@ -8,7 +8,7 @@ use crate::pairs::{is_two_lists, is_two_samples};
 use words::word;
 
 // How far a list of words was read, or that one of them was not what it must be.
-#[derive(Drop)]
+#[derive(Clone, Copy)]
 pub struct Taken {
     pub ok: bool,
     pub count: usize,

@@ -6,14 +6,14 @@ use text::byte::read_byte;
 use text::{read_number, read_sample};
 use words::word;
 
-#[derive(Drop)]
+#[derive(Clone, Copy)]
 pub struct Number {
     pub ok: bool,
     pub value: u32,
     pub end: usize,
 }
 
-#[derive(Drop)]
+#[derive(Clone, Copy)]
 pub struct Sample {
     pub ok: bool,
     pub none: bool,
@@ -21,7 +21,7 @@ pub struct Sample {
     pub end: usize,
 }
 
-#[derive(Drop)]
+#[derive(Clone, Copy)]
 pub struct Byte {
     pub ok: bool,
     pub none: bool,

@@ -6,7 +6,7 @@ use crate::next::next_sample;
 use words::word;
 
 // Two samples; ok is whether a text is these and nothing else.
-#[derive(Drop)]
+#[derive(Clone, Copy)]
 pub struct Two {
     pub ok: bool,
     pub a: i32,

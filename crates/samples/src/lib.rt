@@ -1,5 +1,7 @@
 // Samples in slices: read, written, copied, and told from other numbers.
 // Contracts read the slice as the list of its numbers.
+#![tactic(auto)]
+
 ghost use Rattle.std.specs.Prelude.{◌≡◌, ◌≤◌, ◌<◌, max, leb, ltb, pos, nat_abs, length, get_or, set};
 ghost use Rattle.integer.specs.Rounding.{M};
 ghost use Rattle.samples.specs.Samples.{loudest as Loudest};

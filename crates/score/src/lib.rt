@@ -1,5 +1,7 @@
 // The run of a score: a voice opened from its header, then record after record until the bytes end.
 // A record's number is known before any of its samples is written.
+#![tactic(auto)]
+
 ghost use Rattle.std.specs.Prelude.{◌≡◌, get_or};
 ghost use Rattle.voice.specs.Struct.{state_of};
 ghost use Rattle.voice.specs.Valid.{Valid};
@@ -13,7 +15,7 @@ use record::{NUMBER, WAIT, read_record, word};
 use voice::{Head, Kind, settle};
 
 // What a run returns: its number, its place, and how many samples it wrote.
-#[derive(Drop)]
+#[derive(Clone, Copy)]
 pub struct Played {
     pub refusal: u32,
     pub place: usize,

@@ -1,5 +1,7 @@
 // Storing and loading a voice in memory that a host keeps: 27 words, which crate packed reads and writes, and a
 // line. Document 02, L10. Storing requires the voice's invariant; loading requires nothing, and gives it.
+#![tactic(auto)]
+
 ghost use Rattle.voice.specs.Struct.{state_of};
 ghost use Rattle.voice.specs.Valid.{Valid};
 ghost use Rattle.packed.specs.Words.{head_of};

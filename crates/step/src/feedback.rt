@@ -15,7 +15,7 @@ use integer::{Value, clip};
 use voice::Filter;
 
 // at is the place of the next sample.
-#[derive(Drop)]
+#[derive(Clone, Copy)]
 pub struct Circulated {
     pub y: Value,
     pub filter: Filter,

@@ -9,7 +9,7 @@ use allpass::sample::{allpass, eliminate};
 use integer::Value;
 use voice::Filter;
 
-#[derive(Drop)]
+#[derive(Clone, Copy)]
 pub struct Heard {
     pub y: Value,
     pub filter: Filter,

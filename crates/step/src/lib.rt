@@ -1,5 +1,7 @@
 // One sample of the voice: the loop, the eliminator of a change that waits, and the noise of a pluck.
 // The line is lent, never copied. Each function makes one part of document 01's four steps.
+#![tactic(auto)]
+
 ghost use Rattle.std.specs.Prelude.{◌≡◌, suc, ◌≤◌, min, nat_abs};
 ghost use Rattle.integer.specs.Rounding.{M};
 ghost use Rattle.voice.specs.Valid.{Waiting-valid, Fit, Valid};
@@ -15,7 +17,7 @@ use integer::Value;
 use sound::sound;
 use voice::{Head, Waiting, settle};
 
-#[derive(Drop)]
+#[derive(Clone, Copy)]
 pub struct Stepped {
     pub y: Value,
     pub head: Head,

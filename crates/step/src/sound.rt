@@ -8,7 +8,7 @@ use integer::Value;
 use noise::{Drawn, draw};
 use voice::Pluck;
 
-#[derive(Drop)]
+#[derive(Clone, Copy)]
 pub struct Sounded {
     pub noise: Value,
     pub rest: Pluck,

@@ -2,6 +2,8 @@
 // routine is one call on one string (document 02, L11): 24 where there is no such string, ahead of the
 // call's own tests; else the call of crate kept on that row. In `changes`, the changes; in `stores`, the
 // store and the load, of crate snapshot. Crate mix has the block of all six.
+#![tactic(auto)]
+
 ghost use Rattle.rule.specs.Calls.{loss as Loss, pluck as Plucking};
 ghost use Rattle.instrument.specs.Strings.{on, opens, calls};
 ghost use Rattle.strings.specs.Rows.{Heads, Voices, Called, Played, Resets};

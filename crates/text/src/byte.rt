@@ -5,7 +5,7 @@ ghost use Rattle.text.specs.Numbers.{hex_of, byte_of};
 
 use crate::is_digit;
 
-#[derive(Drop)]
+#[derive(Clone, Copy)]
 pub struct Byte {
     pub ok: bool,
     pub value: u8,

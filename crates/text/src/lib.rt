@@ -1,17 +1,19 @@
 // What a word spells: a number, a sample or a byte. ok is whether it spells one; if not, value is 0.
 // The whole word is read: a word with any other byte in it spells nothing. Contracts cite specs/Numbers.antt.
+#![tactic(auto)]
+
 ghost use Rattle.std.specs.Prelude.{◌≡◌};
 ghost use Rattle.text.specs.Numbers.{digit, number_of, negated, kept, sample_of};
 
 pub mod byte;
 
-#[derive(Drop)]
+#[derive(Clone, Copy)]
 pub struct Number {
     pub ok: bool,
     pub value: u32,
 }
 
-#[derive(Drop)]
+#[derive(Clone, Copy)]
 pub struct Sample {
     pub ok: bool,
     pub value: i32,

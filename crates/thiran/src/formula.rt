@@ -9,7 +9,7 @@ ghost use Rattle.thiran.specs.Answers.{padded};
 
 use integer::{Value, round_half_up};
 
-#[derive(Drop)]
+#[derive(Clone, Copy)]
 pub struct Coefficients {
     pub a1: i64,
     pub a2: i64,
@@ -17,7 +17,7 @@ pub struct Coefficients {
 }
 
 // A fraction.
-#[derive(Drop)]
+#[derive(Clone, Copy)]
 struct Ratio {
     pub top: i64,
     pub bottom: u64,

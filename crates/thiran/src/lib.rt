@@ -1,5 +1,7 @@
 // Thiran's coefficients in units of 1/65,536: the routine that a caller asks, with its refusals.
 // Contracts cite specs/Answers.antt; the filter's own set is made by the module `formula`.
+#![tactic(auto)]
+
 ghost use Rattle.std.specs.Prelude.{◌≡◌};
 ghost use Rattle.refusal.specs.Limits.{refusal};
 ghost use Rattle.thiran.specs.Answers.{limits, design};
@@ -7,7 +9,7 @@ ghost use Rattle.thiran.specs.Answers.{limits, design};
 pub mod formula;
 
 // What `coefficients` returns: refusal is 0 for success.
-#[derive(Drop)]
+#[derive(Clone, Copy)]
 pub struct Design {
     pub refusal: u32,
     pub a1: i32,

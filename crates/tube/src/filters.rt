@@ -14,34 +14,34 @@ use integer::Value;
 use thiran::formula::Coefficients;
 
 // A1 and v1.
-#[derive(Drop)]
+#[derive(Clone, Copy)]
 pub struct Filter {
     pub a1: i64,
     pub v1: i64,
 }
 
-#[derive(Drop)]
+#[derive(Clone, Copy)]
 pub struct Filters {
     pub a: Filter,
     pub b: Filter,
 }
 
 // A number of each side.
-#[derive(Drop)]
+#[derive(Clone, Copy)]
 pub struct Pair {
     pub a: Value,
     pub b: Value,
 }
 
 // An output, and the filter after it.
-#[derive(Drop)]
+#[derive(Clone, Copy)]
 pub struct Output {
     pub y: Value,
     pub filter: Filter,
 }
 
 // An output of each side, and the filters after them.
-#[derive(Drop)]
+#[derive(Clone, Copy)]
 pub struct Outputs {
     pub y: Pair,
     pub filters: Filters,

@@ -1,5 +1,7 @@
 // A tube junction: opened, moved to another delay, and run a sample at a time (document 02, L12).
 // A junction goes by value; specs/Struct.antt says which junction of crate `junction` it is.
+#![tactic(auto)]
+
 ghost use Rattle.std.specs.Prelude.{◌≡◌};
 ghost use Rattle.junction.specs.Junction.{settle as Settle};
 ghost use Rattle.tube.specs.Struct.{waiting_of, junction_of};
@@ -16,14 +18,14 @@ use filters::{Filters, Pair};
 use integer::Value;
 
 // A move that waits, with its d, how many inputs its eliminators have taken, and the eliminators; or none.
-#[derive(Drop)]
+#[derive(Clone, Copy)]
 pub enum Waiting {
     Idle,
     Move(u32, u32, Filters),
 }
 
 // last is the sample before, from each side.
-#[derive(Drop)]
+#[derive(Clone, Copy)]
 pub struct Junction {
     pub r: Value,
     pub d: u32,
@@ -34,20 +36,20 @@ pub struct Junction {
 }
 
 // What an opening or a move returns: refusal is 0 for success.
-#[derive(Drop)]
+#[derive(Clone, Copy)]
 pub struct Answer {
     pub refusal: u32,
     pub junction: Junction,
 }
 
 // A sample that goes out.
-#[derive(Drop)]
+#[derive(Clone, Copy)]
 pub struct Out {
     pub n: i32,
 }
 
 // What a sample returns: what goes to the right, and to the left.
-#[derive(Drop)]
+#[derive(Clone, Copy)]
 pub struct Step {
     pub refusal: u32,
     pub right: Out,

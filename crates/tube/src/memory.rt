@@ -11,7 +11,7 @@ use integer::Value;
 use integer::arithmetic::{minus, plus};
 
 // The words of two filters: A1 and v1 over a, A1 and v1 over b.
-#[derive(Drop)]
+#[derive(Clone, Copy)]
 struct Four {
     pub a1: u32,
     pub av: u32,
@@ -20,7 +20,7 @@ struct Four {
 }
 
 // The words of what waits: 0 for nothing, or 1 and a move.
-#[derive(Drop)]
+#[derive(Clone, Copy)]
 struct Seven {
     pub kind: u32,
     pub d: u32,

@@ -1,5 +1,7 @@
 // The parts of a voice as the code holds them, what a call returns, and what the calls share.
 // specs/Struct.antt says which voice a head and a line are.
+#![tactic(auto)]
+
 ghost use Rattle.std.specs.Prelude.{◌≡◌, [], ◌∷◌, ◌≤◌};
 ghost use Rattle.refusal.specs.Limits.{refusal};
 ghost use Rattle.refusal.specs.Orders.{Takes, orders, order as Order, delay as Delay};
@@ -12,7 +14,7 @@ use allpass::{State, at_rest};
 use integer::Value;
 use thiran::formula::Coefficients;
 
-#[derive(Drop)]
+#[derive(Clone, Copy)]
 pub struct Tuning {
     pub order: u32,
     pub length: u32,
@@ -20,7 +22,7 @@ pub struct Tuning {
 }
 
 // A filter or an eliminator: its tuning, the coefficients of that tuning, and its state.
-#[derive(Drop)]
+#[derive(Clone, Copy)]
 pub struct Filter {
     pub tuning: Tuning,
     pub coefficients: Coefficients,
@@ -28,21 +30,21 @@ pub struct Filter {
 }
 
 // A change waits as an announced one, which commits itself, or as one that was asked for.
-#[derive(Drop)]
+#[derive(Clone, Copy)]
 pub enum Kind {
     Announced,
     Asked,
 }
 
 // A change that waits, with how many samples its eliminator has taken, counted up to the advance; or none.
-#[derive(Drop)]
+#[derive(Clone, Copy)]
 pub enum Waiting {
     Idle,
     Prepared(Kind, Filter, u32),
 }
 
 // The rest of a pluck, with its noise state; all 0 where no step is left.
-#[derive(Drop)]
+#[derive(Clone, Copy)]
 pub struct Pluck {
     pub amplitude: u32,
     pub left: u32,
@@ -50,7 +52,7 @@ pub struct Pluck {
 }
 
 // A voice but for its line; at is the place in the line of the next sample.
-#[derive(Drop)]
+#[derive(Clone, Copy)]
 pub struct Head {
     pub filter: Filter,
     pub loss: u32,
@@ -62,7 +64,7 @@ pub struct Head {
 }
 
 // What a call returns: a refusal is document 01's number, and 0 for success.
-#[derive(Drop)]
+#[derive(Clone, Copy)]
 pub struct Answer {
     pub refusal: u32,
     pub head: Head,

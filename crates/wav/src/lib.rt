@@ -1,5 +1,7 @@
 // Recordings as RIFF WAVE files, PCM, one channel, 24 bits: written into a lent slice, and read from one.
 // Refusals come before anything is done. Contracts cite specs/Written.antt and specs/Recorded.antt.
+#![tactic(auto)]
+
 ghost use Rattle.std.specs.Prelude.{◌≡◌, length};
 ghost use Rattle.wav.specs.Written.{written, left};
 ghost use Rattle.wav.specs.Recorded.{recorded, filled};
@@ -15,14 +17,14 @@ use riff::sizes::file_size;
 use writing::write_number;
 
 // What writing returned: its refusal, 0 for success, and how many bytes the file has.
-#[derive(Drop)]
+#[derive(Clone, Copy)]
 pub struct Written {
     pub refusal: u32,
     pub count: usize,
 }
 
 // What reading returned: its refusal, 0 for success, the rate, and how many samples there are.
-#[derive(Drop)]
+#[derive(Clone, Copy)]
 pub struct Recorded {
     pub refusal: u32,
     pub rate: u32,

@@ -1,12 +1,14 @@
 // The words of a line, which spaces and tabs separate, and the place where a byte first stands.
 // Each function takes what is left of the text, and returns places in it. Contracts cite specs/Words.antt.
+#![tactic(auto)]
+
 ghost use Rattle.std.specs.Prelude.{◌≡◌, ◌≤◌, length};
 ghost use Rattle.words.specs.Words.{blank, Before, Starts, Stops, FirstWord};
 
 pub mod pieces;
 
 // The place of a word: it is the bytes from start up to end, and there is none where the two are equal.
-#[derive(Drop)]
+#[derive(Clone, Copy)]
 pub struct Place {
     pub start: usize,
     pub end: usize,

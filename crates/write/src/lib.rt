@@ -1,5 +1,7 @@
 // Text put into a lent buffer at a place; the place after it is returned. Contracts cite specs/Written.antt.
 // Where the text does not fit, the buffer is left as it was, and the same place is returned.
+#![tactic(auto)]
+
 ghost use Rattle.std.specs.Prelude.{◌+◌, ◌/◌, ◌%◌, ◌≤◌, ◌<◌, nat_abs, length, [], ◌∷◌, ◌≡◌};
 ghost use Rattle.std.proofs.Math.Seq.{paste};
 ghost use Rattle.io.specs.Digits.{hex_digit_ascii};
