@@ -1,0 +1,83 @@
+-- `change::prepared` meets its contract. The loop's invariant: what is left of the window takes p
+-- to where the whole of it takes f, and as many were counted as are not left. The measure is what is left.
+use mathlib.Core.Path.{◌≡◌, refl, ap, ◌∙◌}
+use Prim.Native.Nat.{◌+◌, ◌-◌, ◌≤◌}
+use native.Mathlib.Omega.{arith}
+use lib.IntN.{ℤ}
+use Rattle.allpass.specs.Allpass.{next, run}
+use Rattle.line.specs.Ring.{ring}
+use Rattle.rule.specs.Voice.{A}
+use Rattle.rule.specs.Calls.{window}
+use Rattle.rule.specs.State.{back}
+use Rattle.voice.specs.declared.Tuning.{Tuning}
+use Rattle.voice.specs.Struct.{tuning_of, filter_of}
+use Rattle.voice.specs.Valid.{Tuned}
+use Rattle.rule.proofs.Read.{length-window}
+use Rattle.voice.proofs.Within.{read-within}
+use Rattle.change.proofs.Windows.{window-run}
+use Rattle.change.proofs.prepared.Goals as goal
+
+pub loop-left-init : goal.loop-left-init
+loop-left-init c = (c.requires.0, refl, omega arith, refl)
+
+module _ (c : goal.After-struct_known-1) where
+  -- how far back is read
+  far : (1 ≤ c.args.f.tuning.length + c.loop-left.left)
+      × (c.args.f.tuning.length + c.loop-left.left ≤ 2112)
+  far = let t = c.requires.0 in omega (arith, t.short, t.long)
+
+pub overflow_add-f : goal.overflow_add-f
+overflow_add-f c = omega (arith, far c)
+
+pub overflow_cast-f : goal.overflow_cast-f
+overflow_cast-f c = omega (arith, far c)
+
+pub read-x-requires : goal.read-x-requires
+read-x-requires c = (c.requires.1, (far c).0, (far c).1)
+
+pub moved-p-requires : goal.moved-p-requires
+moved-p-requires c =
+    let s = c.before.before.before.before in
+    let k = s.args.f.tuning.length + c.loop-left.left in
+    (c.loop-left.invariant.0, read-within (k - 1) s.requires.3 c.read-x.ensures)
+
+pub overflow_sub-left : goal.overflow_sub-left
+overflow_sub-left c = omega arith
+
+pub overflow_add-count : goal.overflow_add-count
+overflow_add-count c = omega arith
+
+pub loop-left-smaller : goal.loop-left-smaller
+loop-left-smaller c = omega arith
+
+pub loop-left-preserved : goal.loop-left-preserved
+loop-left-preserved c =
+    let s = c.before.before.before.before.before in
+    let l = c.loop-left in
+    let t = s.args.f.tuning in
+    let v = filter_of l.p in
+    let u = filter_of c.moved-p.result in
+    let m = c.moved-p.ensures in
+    let q = back (ring s.args.at s.args.line.now) in
+    let e : u ≡ next (A (tuning_of t)) v (q (t.length + l.left)) =
+    m.state
+    ∙ ap (λ (t : Tuning). next (A (tuning_of t)) v c.read-x.result.n) l.invariant.1
+    ∙ ap (λ (x : ℤ). next (A (tuning_of t)) v x) c.read-x.ensures in (
+      m.tuned,
+      m.tuning ∙ l.invariant.1,
+      omega arith,
+      window-run (A (tuning_of t)) v u q t.length l.left (omega arith) e ∙ l.invariant.3,
+    )
+
+pub returns : goal.returns
+returns c =
+    let l = c.loop-left in
+    let i : l.left ≡ 0 = omega arith in
+    let a = c.args in (
+      record { tuning = l.invariant.1; state = rw i at l.invariant.3; tuned = l.invariant.0 },
+      omega (
+        arith,
+        l.invariant.2,
+        length-window (back (ring a.at a.line.now)) a.f.tuning.length a.advance,
+      ),
+    )

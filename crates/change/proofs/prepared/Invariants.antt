@@ -1,0 +1,28 @@
+-- `change::prepared` meets its contract. The loop's invariant: what is left of the window takes p
+-- to where the whole of it takes f, and as many were counted as are not left. The measure is what is left.
+use mathlib.Core.Path.{◌≡◌, refl, ap, ◌∙◌}
+use Prim.Native.Nat.{◌+◌, ◌-◌, ◌≤◌}
+use native.Mathlib.Omega.{arith}
+use lib.IntN.{ℤ}
+use Rattle.allpass.specs.Allpass.{next, run}
+use Rattle.line.specs.Ring.{ring}
+use Rattle.rule.specs.Voice.{A}
+use Rattle.rule.specs.Calls.{window}
+use Rattle.rule.specs.State.{back}
+use Rattle.voice.specs.declared.Tuning.{Tuning}
+use Rattle.voice.specs.Struct.{tuning_of, filter_of}
+use Rattle.voice.specs.Valid.{Tuned}
+use Rattle.rule.proofs.Read.{length-window}
+use Rattle.voice.proofs.Within.{read-within}
+use Rattle.change.proofs.Windows.{window-run}
+use Rattle.change.proofs.prepared.Given as goal
+
+abbrev pub invariant-loop-left : goal.invariant-loop-left
+invariant-loop-left l =
+    let A' = A (tuning_of l.f.tuning) in
+    let over = window (back (ring l.at l.line)) l.f.tuning.length in
+    Tuned l.p × (l.p.tuning ≡ l.f.tuning) × (l.count + l.left ≡ l.advance)
+    × (run A' (filter_of l.p) (over l.left) ≡ run A' (filter_of l.f) (over l.advance))
+
+abbrev pub decreases-loop-left : goal.decreases-loop-left
+decreases-loop-left l = l.left

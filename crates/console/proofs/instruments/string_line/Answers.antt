@@ -1,0 +1,10 @@
+-- `console::instruments::string_line` meets its contract: the row is a voice.
+use native.Mathlib.Omega.{arith}
+use borrow.Author.Rules.{rules}
+use Rattle.console.proofs.instruments.string_line.Goals as goal
+
+pub past-requires : goal.past-requires
+past-requires c =
+    let u = c.before.before in
+    let s = u.before.before.before in
+    rw u.unpack-h.ensures (s.requires.valid s.args.string (omega arith)).fit.at

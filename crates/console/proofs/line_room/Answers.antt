@@ -1,0 +1,9 @@
+-- `console::line_room` meets its contract: the length of a list that repeats one byte.
+-- Assumes nothing.
+use mathlib.Core.Path.{sym}
+use Prim.Native.Nat.{ℕ}
+use lib.ListN.{length-replicate}
+use Rattle.console.proofs.line_room.Goals as goal
+
+pub returns : goal.returns
+returns c = sym (length-replicate {A = ℕ} 1048577 0)

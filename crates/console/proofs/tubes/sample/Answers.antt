@@ -1,0 +1,11 @@
+-- `console::tubes::sample` meets its contract: the words are those of what `sample` returns.
+use borrow.Author.Rules.{rules}
+use Rattle.console.proofs.tubes.sample.Goals as goal
+
+pub sample-s-requires : goal.sample-s-requires
+sample-s-requires c = rw c.unpack-j.ensures c.requires
+
+pub returns : goal.returns
+returns c =
+    let p = c.before.before.before.before.before.before.before.before in
+    rw p.pack-w.ensures p.sample-s.ensures.1

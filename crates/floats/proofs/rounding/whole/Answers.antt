@@ -1,0 +1,10 @@
+-- `floats::rounding::whole` meets its contract: the number is in the range that truncation asks for.
+use Rattle.std.proofs.Common.{◌∙◌}
+use Rattle.floats.proofs.Whole.{in_range, whole_is}
+use Rattle.floats.proofs.rounding.whole.Goals as goal
+
+pub truncating_f64_to_u64-requires : goal.truncating_f64_to_u64-requires
+truncating_f64_to_u64-requires c = in_range c.args.v c.requires
+
+pub returns : goal.returns
+returns c = c.truncating_f64_to_u64.ensures ∙ whole_is c.args.v c.requires

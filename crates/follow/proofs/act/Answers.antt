@@ -1,0 +1,44 @@
+-- `follow::act` meets its contract: the parts of the record, or the one call of an instant change alone.
+-- Assumes nothing.
+use mathlib.Core.Path.{sym, ap₂, subst, ◌∙◌}
+use mathlib.Core.List.{List}
+use Prim.Native.Nat.{ℕ, ◌+◌}
+use Rattle.rule.specs.Calls.{Call}
+use Rattle.voice.specs.declared.Answer.{Answer}
+use Rattle.voice.specs.Struct.{state_of}
+use Rattle.voice.specs.Called.{On}
+use Rattle.follow.specs.Follow.{change, act_calls}
+use Rattle.follow.specs.Does.{Does}
+use Rattle.follow.proofs.Following.{does-one, none_both, change-alone, at_once, on_as}
+use borrow.Author.Rules.{rules}
+use Rattle.follow.proofs.act.Goals as goal
+use Rattle.follow.proofs.act.Lts as lts
+use Rattle.follow.proofs.act.Reads as reads
+use Rattle.follow.proofs.act.Tie as tie
+
+-- a change alone, once its manner is known
+module _ (c : (lts.After-bit5 tie.the-claims reads.Pre reads.Post)) where
+  made : {a : Answer} → let s = c.args in
+      On s.head s.line.now (change s.r.now (state_of s.head s.line.now)) a s.line.now
+      → Does s.head s.line.now (act_calls s.r.now (state_of s.head s.line.now)) a
+      s.line.now
+  made {a} o =
+      let e = c.before in
+      let f = e.before.before.before in
+      let s = c.args in
+      let g = e.bit-3 in
+      let p = e.bit-4 in
+      let no = none_both g.result p.result e.if-bit-ne0.false in
+      let added = ap₂ (λ (x y : ℕ). x + y) f.bit.ensures f.bit-2.ensures in
+      subst (λ (cs : List Call). Does s.head s.line.now cs a s.line.now)
+      (change-alone s.r.now (state_of s.head s.line.now) (sym g.ensures ∙ no.0)
+      (λ z. f.if-bit-eq0.false (added ∙ z)) (sym p.ensures ∙ no.1))
+      (does-one s.head s.line.now o)
+
+pub returns : goal.returns
+returns c =
+    let t = c.before.before in
+    let s = t.args in
+    made t (on_as c.at_once.ensures
+    (at_once s.r.now (state_of s.head s.line.now)
+    (λ z. c.if-bit-eq0-2.false (t.bit-5.ensures ∙ z))))

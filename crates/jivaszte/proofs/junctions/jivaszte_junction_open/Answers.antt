@@ -1,0 +1,6 @@
+-- `jivaszte::junctions::jivaszte_junction_open` meets its contract: the words are those of what `open` returns.
+use borrow.Author.Rules.{rules}
+use Rattle.jivaszte.proofs.junctions.jivaszte_junction_open.Goals as goal
+
+pub returns : goal.returns
+returns c = rw c.pack-w.ensures c.before.before.«open».ensures

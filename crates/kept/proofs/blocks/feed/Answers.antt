@@ -1,0 +1,24 @@
+-- `kept::blocks::feed` meets its contract: a block of zeros is played; any other is the block by value on
+-- the head that the words are.
+use borrow.Author.Rules.{rules}
+use Rattle.block.proofs.Blocks.{zeros}
+use lib.ListN.{length}
+use Rattle.kept.proofs.blocks.feed.Goals as goal
+
+pub returns-then-is_silent : goal.returns-then-is_silent
+returns-then-is_silent c =
+    let t = c.before.before.before.before.before in
+    let s = t.args in
+    let q = t.is_silent.ensures t.if-is_silent.true in
+    rw (← zeros s.input.now (length s.output.now) q.0 q.1) c.play.ensures
+
+pub block-a-requires : goal.block-a-requires
+block-a-requires c = rw c.unpack-h.ensures c.requires
+
+pub pack-w-requires : goal.pack-w-requires
+pack-w-requires c = c.block-a.ensures.0.valid.fit
+
+pub returns : goal.returns
+returns c =
+    let b = c.before.before.before in
+    rw (← b.unpack-h.ensures, c.pack-w.ensures) b.block-a.ensures

@@ -1,0 +1,36 @@
+-- `kept::blocks::play` meets its contract: a block of zeros is never refused, and is what is rendered where
+-- 0 comes in at each sample.
+use Prim.Native.Nat.{ℕ, zero, suc, ◌≤◌}
+use native.Mathlib.Omega.{arith}
+use borrow.Author.Rules.{rules}
+use lib.IntN.{pos}
+use lib.ListN.{length, replicate, length-replicate}
+use Rattle.integer.specs.Rounding.{M}
+use Rattle.samples.specs.Samples.{loudest}
+use Rattle.voice.specs.Struct.{voice_of}
+use Rattle.block.proofs.Blocks.{plays, block_on, block-lent}
+use Rattle.kept.proofs.blocks.play.Goals as goal
+
+zeros-quiet : (n : ℕ) → loudest (replicate n (pos 0)) ≤ M
+zeros-quiet zero = omega arith
+zeros-quiet (suc n) = omega (arith, zeros-quiet n)
+
+pub unfed-k-requires : goal.unfed-k-requires
+unfed-k-requires c = rw c.unpack-h.ensures c.requires
+
+pub returns : goal.returns
+returns c =
+    let b = c.before.before in
+    let u = b.before.before.before in
+    let s = u.args in
+    let h = u.unpack-h.result in
+    let l = s.line.now in
+    let n = length s.output.now in
+    let xs = replicate n (pos 0) in
+    let e = plays (voice_of h) xs n (length-replicate n (pos 0)) (zeros-quiet n) in
+    let f = b.unfed-k.ensures in
+    let k = b.unfed-k.new in
+    rw (← u.unpack-h.ensures, c.pack-w.ensures) (
+      block_on h l xs n e b.unfed-k.result k.0 f.valid f.after,
+      block-lent h l xs n e k.1.1.0 s.output.now f.out,
+    )

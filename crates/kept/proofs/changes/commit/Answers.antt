@@ -1,0 +1,14 @@
+-- `kept::changes::commit` meets its contract: the call by value on the head that the words are.
+use borrow.Author.Rules.{rules}
+use Rattle.kept.proofs.changes.commit.Goals as goal
+
+pub commit-r-requires : goal.commit-r-requires
+commit-r-requires c = rw c.unpack-h.ensures c.requires
+
+pub pack-w-requires : goal.pack-w-requires
+pack-w-requires c = c.commit-r.ensures.fit
+
+pub returns : goal.returns
+returns c =
+    let a = c.before.before in
+    rw (← a.unpack-h.ensures, c.pack-w.ensures) a.commit-r.ensures

@@ -1,0 +1,12 @@
+-- `kept::changes::instant` meets its contract: the call by value on the head that the words are, and its
+-- count.
+use borrow.Author.Rules.{rules}
+use Rattle.kept.proofs.changes.instant.Goals as goal
+
+pub instant-c-requires : goal.instant-c-requires
+instant-c-requires c = rw c.unpack-h.ensures c.requires
+
+pub returns : goal.returns
+returns c =
+    let a = c.before.before.before in
+    rw (← a.unpack-h.ensures, c.pack-w.ensures) a.instant-c.ensures

@@ -1,0 +1,51 @@
+-- `kept::checks::check` meets its contract: the head by its words, the line by its loudest sample.
+use mathlib.Core.Path.{refl, sym, ◌∙◌}
+use mathlib.Core.Bool.{true≢false}
+use native.Mathlib.Omega.{arith}
+use borrow.Author.Rules.{rules}
+use borrow.Author.Tests.{leb-true, not-true, not-false, le-leb}
+use Rattle.integer.specs.Rounding.{M}
+use Rattle.samples.specs.Samples.{loudest}
+use Rattle.packed.specs.Words.{head_of}
+use Rattle.kept.proofs.Limits.{line-is}
+use Rattle.kept.proofs.checks.check.Goals as goal
+
+pub returns-then-not-fits : goal.returns-then-not-fits
+returns-then-not-fits c = (
+  omega arith,
+  (
+    (λ e. absurd (omega (arith, e))),
+    (λ v. absurd (true≢false (sym (c.fits2.ensures.1 v.fit) ∙ not-true _ c.if-not-fits.true))),
+  ),
+)
+
+pub returns-then-not-all_samples : goal.returns-then-not-all_samples
+returns-then-not-all_samples c =
+    let a = c.before in
+    let s = a.args in
+    let l = s.line.now in (
+      omega arith,
+      (
+        (λ e. absurd (omega (arith, e))),
+        (λ v.
+            let q = (line-is (head_of s.head.now).at l).1 v.line in
+            absurd (true≢false (sym (a.all_samples.ensures ∙ le-leb (loudest l) M q) ∙ not-true _ c.if-not-all_samples.true))),
+      ),
+    )
+
+pub returns : goal.returns
+returns c =
+    let a = c.before in
+    let e1 = a.before.before in
+    let s = e1.args in
+    let l = s.line.now in
+    let q = leb-true (loudest l) M (sym a.all_samples.ensures ∙ not-false _ c.if-not-all_samples.false) in (
+      omega arith,
+      (
+        (λ e. record {
+          fit = e1.fits2.ensures.0 (not-false _ e1.if-not-fits.false);
+          line = (line-is (head_of s.head.now).at l).0 q;
+        }),
+        (λ v. refl),
+      ),
+    )

@@ -1,0 +1,11 @@
+-- `kept::set_loss` meets its contract: the call by value on the head that the words are.
+use borrow.Author.Rules.{rules}
+use Rattle.kept.proofs.set_loss.Goals as goal
+
+pub loss-a-requires : goal.loss-a-requires
+loss-a-requires c = rw c.unpack-h.ensures c.requires
+
+pub returns : goal.returns
+returns c =
+    let a = c.before.before in
+    rw (← a.unpack-h.ensures, c.pack-w.ensures) a.loss-a.ensures

@@ -1,0 +1,15 @@
+-- `kept::waits::left` meets its contract: a change that waits has taken no more samples than the advance.
+use mathlib.Core.Path.{subst}
+use native.Mathlib.Omega.{arith}
+use borrow.Author.Rules.{rules}
+use Rattle.voice.specs.declared.Waiting.{Waiting}
+use Rattle.voice.specs.Valid.{Waiting-valid}
+use Rattle.kept.proofs.waits.left.Goals as goal
+
+pub overflow_sub-result : goal.overflow_sub-result
+overflow_sub-result c =
+    let s = c.before.before.before in
+    omega (arith, (subst (λ (w : Waiting). Waiting-valid s.args.advance w) c.w-1.given.1 s.requires).counted)
+
+pub returns-in-Prepared : goal.returns-in-Prepared
+returns-in-Prepared c = rw c.w-1.given.1

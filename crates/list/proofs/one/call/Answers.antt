@@ -1,0 +1,31 @@
+-- `list::one::call` meets its contract: an instant change has its count, and no other call has one.
+-- Assumes nothing.
+use mathlib.Core.Path.{sym, subst}
+use Prim.Native.Nat.{ℕ}
+use borrow.Author.Rules.{rules}
+use Rattle.line.specs.Ring.{ring}
+use Rattle.rule.specs.State.{back}
+use Rattle.voice.specs.Struct.{voice_of}
+use Rattle.voice.proofs.Called.{on}
+use Rattle.list.proofs.Calling.{instantly, uncounted, counts-none}
+use Rattle.list.proofs.one.call.Goals as goal
+
+pub returns-then-kind-eq4 : goal.returns-then-kind-eq4
+returns-then-kind-eq4 c =
+    let t = c.before in
+    let a = t.args in
+    instantly a.head a.line.now a.a a.b a.c c.instant.result t.if-kind-eq4.true
+    (λ xs. record { made = c.instant.ensures.0; count = c.instant.ensures.1 })
+
+pub apart-requires : goal.apart-requires
+apart-requires c =
+    let s = c.before in (s.requires.0.fit, s.requires.1, c.if-kind-eq4.false, s.requires.2)
+
+pub returns : goal.returns
+returns c =
+    let p = c.before in
+    let e = p.before in
+    let s = e.before in
+    let a = s.args in
+    λ xs. uncounted (on a.line.now (p.apart.ensures xs) s.requires.0.line) c.uncounted.ensures
+    (counts-none (voice_of a.head) (back (ring a.head.at a.line.now)) a.kind a.a a.b a.c xs e.if-kind-eq4.false)

@@ -1,0 +1,43 @@
+use Rattle.load.proofs.Heads.{voice-is}
+use Rattle.voice.specs.declared.Head.{Head}
+use native.Mathlib.Omega.{arith}
+use mathlib.Core.Path.{refl}
+use borrow.Author.Rules.{rules}
+use Rattle.load.proofs.build.head_of.Reads as reads
+use Rattle.load.proofs.build.head_of.Lts as lts
+use Rattle.load.proofs.build.filter_of.Reads as filter-of-reads
+use Rattle.load.proofs.build.pluck_of.Reads as pluck-of-reads
+use Rattle.load.proofs.build.value_of.Reads as value-of-reads
+use Rattle.load.proofs.build.waiting_of.Reads as waiting-of-reads
+use Rattle.load.proofs.build.head_of.Goals as goal
+
+-- src/build.rt:95:1
+pub returns : goal.returns
+returns c =
+    let y = c.before in
+    let x = y.before in
+    let f = x.before.before in
+    let s = f.before in
+    let h = s.requires in
+    let head : Head = record {
+      filter = f.filter_of-filter.result;
+      loss = s.args.w.loss;
+      advance = s.args.w.advance;
+      last = y.value_of_lem.result;
+      waiting = x.waiting_of-waiting.result;
+      pluck = c.pluck_of-pluck.result;
+      at = 0;
+    } in
+    record {
+      voice = λ l. voice-is s.args.w head l f.filter_of-filter.ensures refl refl y.value_of_lem.ensures x.waiting_of-waiting.ensures.0 c.pluck_of-pluck.ensures.0;
+      fit = record {
+        filter = f.filter_of-filter.ensures.tuned;
+        loss = h.loss;
+        advance = h.advance;
+        last = rw y.value_of_lem.ensures h.last;
+        waiting = x.waiting_of-waiting.ensures.1;
+        pluck = c.pluck_of-pluck.ensures.1;
+        at = omega arith;
+      };
+      place = refl;
+    }

@@ -1,0 +1,23 @@
+use Rattle.load.proofs.Said.{taken-early, taken-late}
+use Rattle.load.proofs.Heads.{announced_waits, asked_waits}
+use borrow.Author.Rules.{rules}
+use Rattle.load.proofs.build.prepared.Reads as reads
+use Rattle.load.proofs.build.prepared.Lts as lts
+use Rattle.load.proofs.build.filter_of.Reads as filter-of-reads
+use Rattle.load.proofs.build.prepared.Goals as goal
+
+-- src/build.rt:68:9
+pub returns-then-c-eq1 : goal.returns-then-c-eq1
+returns-then-c-eq1 c =
+    let f = c.before.before in
+    let s = f.before in
+    announced_waits s.args.advance s.args.c f.filter_of-e.result c.if-c-eq1.true
+    (taken-early s.requires.true c.if-c-eq1.true) f.filter_of-e.ensures
+
+-- src/build.rt:62:1
+pub returns : goal.returns
+returns c =
+    let f = c.before.before in
+    let s = f.before in
+    let t = taken-late s.requires.true c.if-c-eq1.false in
+    asked_waits s.args.advance s.args.c f.filter_of-e.result t.0 t.1 f.filter_of-e.ensures

@@ -1,0 +1,44 @@
+use Rattle.load.proofs.Line.{Until, too_loud, one_more, word_read}
+use lib.IntN.{nat_abs}
+use Prim.Native.Nat.{◌+◌, ◌*◌}
+use mathlib.Core.Logic.{⊎_elim}
+use mathlib.Core.Path.{◌≡◌, ap, ◌∙◌}
+use borrow.Author.Rules.{rules}
+use Rattle.load.proofs.Said.{says_yes}
+use Rattle.load.specs.Says.{Says}
+use native.Mathlib.Omega.{arith}
+use Prim.Native.Nat.{◌≤◌, ◌-◌}
+use Rattle.load.proofs.limits.all_samples.Reads as reads
+use Rattle.load.proofs.limits.all_samples.Lts as lts
+use Rattle.load.proofs.limits.magnitude.Reads as magnitude-reads
+use Rattle.octets.proofs.four.Reads as four-reads
+use Rattle.load.proofs.limits.all_samples.Goals as goal
+
+-- src/limits.rt:157:5
+pub loop-i-init : goal.loop-i-init
+loop-i-init c = (omega arith, says_yes (λ k h. absurd (omega arith)))
+
+-- src/limits.rt:158:34
+pub four-requires : goal.four-requires
+four-requires c = omega (arith, c.requires, c.loop-i-test.true)
+
+-- src/limits.rt:157:5
+pub loop-i-preserved : goal.loop-i-preserved
+loop-i-preserved c =
+    let g = c.before in
+    let i = g.loop-i.i in
+    let l = g.loop-i in
+    let s = g.args in
+    let w = g.four in
+    let e = g.magnitude.ensures ∙ ap nat_abs (word_read s.s.now (s.at + 4 * i) w.result w.ensures.0) in
+    ⊎_elim
+    (λ j. (omega arith, rw j.1 (too_loud s.s.now s.at i g.magnitude.result e j.0.true)))
+    (λ j. (omega arith, rw j.1 (one_more s.s.now s.at i g.magnitude.result l.good e j.0.left l.invariant.1)))
+    c.if-magnitude-gt8388607.branch
+
+-- src/limits.rt:151:1
+pub returns : goal.returns
+returns c =
+    let l = c.loop-i in
+    let n : l.i ≡ 2112 = omega arith in
+    rw n at l.invariant.1

@@ -1,0 +1,53 @@
+use Rattle.load.proofs.Said.{says_no, granted, refuted}
+use native.Mathlib.Omega.{arith}
+use borrow.Author.Rules.{rules}
+use Rattle.load.proofs.limits.head_in.Reads as reads
+use Rattle.load.proofs.limits.head_in.Lts as lts
+use Rattle.load.proofs.limits.change_in.Reads as change-in-reads
+use Rattle.load.proofs.limits.filter_in.Reads as filter-in-reads
+use Rattle.load.proofs.limits.magnitude.Reads as magnitude-reads
+use Rattle.load.proofs.limits.pluck_in.Reads as pluck-in-reads
+use Rattle.load.proofs.limits.head_in.Goals as goal
+
+-- src/limits.rt:131:9
+pub returns-then-not-filter_in : goal.returns-then-not-filter_in
+returns-then-not-filter_in c =
+    says_no (λ h. refuted c.filter_in_lem.ensures c.if-not-filter_in.true h.filter)
+
+-- src/limits.rt:134:9
+pub returns-then-w-gt65535 : goal.returns-then-w-gt65535
+returns-then-w-gt65535 c = says_no (λ h. omega (arith, h.loss, c.if-w-gt65535.true))
+
+-- src/limits.rt:137:9
+pub returns-then-w-gt64 : goal.returns-then-w-gt64
+returns-then-w-gt64 c = says_no (λ h. omega (arith, h.advance, c.if-w-gt64.true))
+
+-- src/limits.rt:140:9
+pub returns-then-magnitude-gt8388607 : goal.returns-then-magnitude-gt8388607
+returns-then-magnitude-gt8388607 c =
+    says_no (λ h. omega (arith, h.last, c.magnitude.ensures, c.if-magnitude-gt8388607.true))
+
+-- src/limits.rt:143:9
+pub returns-then-not-pluck_in : goal.returns-then-not-pluck_in
+returns-then-not-pluck_in c = says_no (λ h. refuted c.pluck_in.ensures c.if-not-pluck_in.true h.pluck)
+
+-- src/limits.rt:127:1
+pub returns : goal.returns
+returns c =
+    let e5 = c.before.before in
+    let e4 = e5.before.before in
+    let e3 = e4.before.before in
+    let e2 = e3.before.before in
+    let e1 = e2.before.before in
+    let s = c.change_in.ensures in
+    record {
+      yes = λ t. record {
+        filter = granted e1.filter_in_lem.ensures e1.if-not-filter_in.false;
+        loss = e2.if-w-gt65535.false;
+        advance = e3.if-w-gt64.false;
+        last = omega (arith, e4.magnitude.ensures, e4.if-magnitude-gt8388607.false);
+        change = s.yes t;
+        pluck = granted e5.pluck_in.ensures e5.if-not-pluck_in.false;
+      };
+      no = λ h. s.no h.change;
+    }

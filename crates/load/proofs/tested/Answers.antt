@@ -1,0 +1,65 @@
+use Rattle.load.proofs.Loading.{by_22, by_23, by_0, head-limits, limits-head, line-room, line-limits, limits-line}
+use Rattle.load.proofs.Said.{granted, refuted}
+use Rattle.form.specs.Parts.{held_in}
+use borrow.Author.Rules.{rules}
+use Rattle.load.proofs.tested.Reads as reads
+use Rattle.load.proofs.tested.Lts as lts
+use Rattle.load.proofs.limits.head_in.Reads as head-in-reads
+use Rattle.load.proofs.limits.line_in.Reads as line-in-reads
+use Rattle.load.proofs.words.map_of.Reads as map-of-reads
+use Rattle.load.proofs.words.places.Reads as places-reads
+use Rattle.load.proofs.words.words_of.Reads as words-of-reads
+use Rattle.load.proofs.tested.Goals as goal
+
+-- src/lib.rt:45:9
+pub returns-then-s-end : goal.returns-then-s-end
+returns-then-s-end c =
+    let p = c.before in
+    let m = p.before in
+    by_22 m.args.s.now m.map_of-m.result m.map_of-m.ensures.0 p.places-p.result
+    p.places-p.ensures c.if-s-end.true
+
+-- src/lib.rt:48:9
+pub returns-then-not-head_in : goal.returns-then-not-head_in
+returns-then-not-head_in c =
+    let w = c.before.before in
+    let e = w.before in
+    let p = e.before in
+    let m = p.before in
+    let s = m.args.s.now in
+    by_23 s m.map_of-m.result m.map_of-m.ensures.0 p.places-p.result p.places-p.ensures e.if-s-end.false
+    (λ i. refuted c.head_in.ensures c.if-not-head_in.true (head-limits w.words_of.result (held_in s) w.words_of.ensures i))
+
+-- src/lib.rt:50:9
+pub line_in-requires : goal.line_in-requires
+line_in-requires c =
+    let e = c.before.before.before in
+    let p = e.before in
+    let m = p.before in
+    line-room m.args.s.now m.map_of-m.result m.map_of-m.ensures.0 p.places-p.result
+    p.places-p.ensures e.if-s-end.false
+
+-- src/lib.rt:51:9
+pub returns-then-not-line_in : goal.returns-then-not-line_in
+returns-then-not-line_in c =
+    let e = c.before.before.before.before.before in
+    let p = e.before in
+    let m = p.before in
+    let s = m.args.s.now in
+    by_23 s m.map_of-m.result m.map_of-m.ensures.0 p.places-p.result p.places-p.ensures e.if-s-end.false
+    (λ i. refuted c.line_in.ensures c.if-not-line_in.true
+    (line-limits s m.map_of-m.result m.map_of-m.ensures.0 p.places-p.result p.places-p.ensures i.line))
+
+-- src/lib.rt:38:1
+pub returns : goal.returns
+returns c =
+    let h = c.before.before in
+    let w = h.before.before in
+    let e = w.before in
+    let p = e.before in
+    let m = p.before in
+    let s = m.args.s.now in
+    let line = limits-line s m.map_of-m.result m.map_of-m.ensures.0 p.places-p.result p.places-p.ensures
+    (granted c.line_in.ensures c.if-not-line_in.false) in
+    by_0 s m.map_of-m.result m.map_of-m.ensures.0 p.places-p.result p.places-p.ensures e.if-s-end.false
+    (limits-head w.words_of.result (held_in s) w.words_of.ensures (granted h.head_in.ensures h.if-not-head_in.false) line)

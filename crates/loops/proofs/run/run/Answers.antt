@@ -1,0 +1,324 @@
+-- `loops::run::run` meets its contract: the invariant is what the loop leaves, with the products it carries on.
+-- What waits, if anything, is in proofs/Leading.antt and proofs/Ahead.antt. Assumes nothing.
+use mathlib.Core.Path.{◌≡◌, refl, sym, ap, subst, ◌∙◌}
+use Prim.Native.Nat.{ℕ, ◌+◌, ◌-◌, ◌%◌, ◌≤◌, ◌<◌}
+use native.Mathlib.Omega.{arith}
+use borrow.Author.Rules.{rules}
+use borrow.Author.Tests.{leb-true, not-false}
+use lib.Dec.{leb}
+use lib.IntN.{ℤ, pos, nat_abs, ◌+ℤ◌, ◌*ℤ◌}
+use lib.ListN.{length}
+use Rattle.integer.specs.Rounding.{M, clip}
+use Rattle.integer.specs.Cut.{Q}
+use Rattle.integer.proofs.Rounding.{clip_abs}
+use Rattle.thiran.specs.Answers.{taps}
+use Rattle.allpass.specs.declared.State.{State}
+use Rattle.allpass.specs.Allpass.{next, out}
+use Rattle.allpass.specs.Stored.{stored, held, Fed}
+use Rattle.allpass.specs.Products.{products_of}
+use Rattle.voice.specs.declared.Filter.{Filter}
+use Rattle.voice.specs.declared.Waiting.{Waiting}
+use Rattle.voice.specs.declared.Head.{Head}
+use Rattle.voice.specs.Struct.{filter_of, state_of}
+use Rattle.voice.specs.Valid.{Valid}
+use Rattle.step.proofs.Filters.{taps_of, tuned-fed}
+use Rattle.loops.specs.declared.Led.{Led}
+use Rattle.loops.specs.Carried.{anew_of, ran_of, after_of}
+use Rattle.loops.specs.Fed.{fed_of, input_of}
+use Rattle.loops.specs.Rendered.{Went}
+use Rattle.loops.proofs.Fed.{length-fed, as_long, input-fed, set-fed}
+use Rattle.loops.proofs.Passes.{Passed, started, reads, more}
+use Rattle.loops.proofs.Carrying.{keeps, kept_self}
+use Rattle.loops.proofs.Ahead.{feeds, moves}
+use Rattle.loops.proofs.Leading.{keeps_ahead, rests, begins, on_of, still, alone, goes}
+use Rattle.loops.proofs.Taking.{from_on, taken-small, taken_circulates}
+use Rattle.loops.proofs.run.run.Goals as goal
+use Rattle.loops.proofs.run.run.Lts as lts
+use Rattle.loops.proofs.run.run.Reads as reads
+use Rattle.loops.proofs.run.run.Tie as tie
+
+pub kept-v-requires : goal.kept-v-requires
+kept-v-requires c = keeps c.args.h.filter c.requires.0.0.fit.filter c.requires.1.0.0
+
+-- the state of the filter is all that is c.before.before.before.before.before.before.before.before.before of it
+is_state : (c : (lts.After-kept tie.the-claims reads.Pre reads.Post goal.the-invariant-loop-i goal.the-decreases-loop-i)) → c.kept-v.result ≡ c.args.h.filter.state
+is_state c =
+    let s = c.before in
+    kept_self s.args.h.filter s.requires.0.0.fit.filter s.requires.1.0.0 c.kept-v.ensures
+
+pub of_state-k-requires : goal.of_state-k-requires
+of_state-k-requires c =
+    let s = c.before in
+    let f = s.args.h.filter in
+    rw s.requires.1.0.0
+    (subst (λ (v : State). Fed f.tuning.order f.coefficients v (pos 0)) (sym (is_state c))
+    (tuned-fed s.requires.0.0.fit.filter {x = pos 0} (omega arith)))
+
+pub kept-u-requires : goal.kept-u-requires
+kept-u-requires c =
+    let s = c.before.before in
+    let a = s.args in
+    keeps_ahead a.h.waiting a.coming (length a.buffer.now) a.h.advance a.e s.requires.1.0.2
+    s.requires.0.0.fit.waiting
+
+pub loop-i-init : goal.loop-i-init
+loop-i-init c =
+    let j = c.before in
+    let q = j.before.before in
+    let s = q.before in
+    let h = s.args.h in
+    let fit = s.requires.0.0.fit in
+    let u = j.kept-u.result in
+    let n = length s.args.buffer.now in
+    let r = rests h.waiting s.args.coming n h.advance s.args.e u s.requires.1.0.2 fit.waiting
+    j.kept-u.ensures in (
+      started (begins h.waiting h q.kept-v.result u refl (is_state q) r fit.waiting fit.at)
+          s.requires.0.1 s.requires.0.0,
+      c.of_state-k.ensures,
+    )
+
+-- where a c.before begins, or the loop ends
+module _ (p : (lts.At-loop tie.the-claims reads.Pre reads.Post goal.the-invariant-loop-i goal.the-decreases-loop-i)) where
+  abbrev start : (lts.Start tie.the-claims reads.Pre reads.Post goal.the-invariant-loop-i goal.the-decreases-loop-i)
+  start = p.before.before.before.before.before
+
+  abbrev led : Led
+  led = record { ran = record { state = p.loop.v; last = p.loop.last; done = p.loop.i }; next = p.loop.u }
+
+  same : length p.loop.buffer ≡ length start.args.buffer.now
+  same =
+      let l = p.loop in
+      as_long start.args.fed l.i l.buffer start.args.buffer.now l.inv.0.0.long
+
+-- a c.before of the loop: a change still waits
+module _ (c : (lts.In-loop tie.the-claims reads.Pre reads.Post goal.the-invariant-loop-i goal.the-decreases-loop-i)) where
+  abbrev first : (lts.Start tie.the-claims reads.Pre reads.Post goal.the-invariant-loop-i goal.the-decreases-loop-i)
+  first = start c.before
+
+  abbrev h : Head
+  h = first.args.h
+
+  -- the filter, and the place of the next sample
+  abbrev f : Filter
+  f = anew_of h.filter.tuning.order h.filter c.loop-i.v
+
+  abbrev at : ℕ
+  at = (h.at + c.loop-i.i) % 2112
+
+  abbrev head : Head
+  head = on_of h.waiting h (led c.before)
+
+  more_left : c.loop-i.i < length first.args.buffer.now
+  more_left = omega (arith, c.loop-i-test.true, same c.before)
+
+  so_far : Passed (fed_of first.args.fed 0 first.args.buffer.now) (state_of h first.args.line.now)
+      (fed_of first.args.fed c.loop-i.i c.loop-i.buffer) head c.loop-i.line c.loop-i.i
+  so_far =
+      let l = c.loop-i in
+      let a = first.args in
+      let b = a.buffer.now in
+      subst
+      (λ (k : Head). Passed (fed_of a.fed 0 b) (state_of h a.line.now) (fed_of a.fed l.i l.buffer) k
+      l.line l.i)
+      (still h.waiting h (led c.before) a.coming (length b) a.e first.requires.1.0.2 more_left)
+      l.inv.0
+
+  valid : Valid (ran_of h (led c.before).ran) c.loop-i.line
+  valid = alone h.waiting h (led c.before) so_far.1
+
+  left : c.loop-i.i < length (fed_of first.args.fed c.loop-i.i c.loop-i.buffer)
+  left =
+      let l = c.loop-i in
+      omega (arith, c.loop-i-test.true, length-fed first.args.fed l.i l.buffer)
+
+  here : h.at + c.loop-i.i ≡ at
+  here = omega (arith, more_left, first.requires.1.1.2.0)
+
+  inside : at < 2112
+  inside = valid.fit.at
+
+  place : first.args.from + c.loop-i.i ≡ (at + 2112 - f.tuning.length) % 2112
+  place =
+      let s = first.requires.1.1 in
+      let t = valid.fit.filter in
+      from_on h.at f.tuning.length first.args.from (length first.args.buffer.now)
+      c.loop-i.i s.2.0 s.2.1 more_left s.0 t.short t.long
+
+  far-inside : first.args.far + c.loop-i.i < 2112
+  far-inside = omega (arith, first.requires.1.1.1, first.requires.1.1.3.1, more_left)
+
+  on : (h.at + (c.loop-i.i + 1)) % 2112 ≡ (at + 1) % 2112
+  on = omega (arith, here)
+
+pub overflow_add-from : goal.overflow_add-from
+overflow_add-from c =
+    let l = c.before.before in
+    omega (arith, place l, more_left l)
+
+pub read-x-requires : goal.read-x-requires
+read-x-requires c =
+    let l = c.before.before in
+    omega (arith, c.read-arg-in-loop-i-1.given.0, place l)
+
+pub overflow_add-far : goal.overflow_add-far
+overflow_add-far c = omega (arith, far-inside c.before.before.before.before.before)
+
+pub read-g-requires : goal.read-g-requires
+read-g-requires c =
+    omega (arith, c.read-arg-in-loop-i-3-1.given.0, far-inside c.before.before.before.before.before)
+
+-- once its samples are read
+module _ (c : (lts.After-read2 tie.the-claims reads.Pre reads.Post goal.the-invariant-loop-i goal.the-decreases-loop-i)) where
+  abbrev within : (lts.In-loop tie.the-claims reads.Pre reads.Post goal.the-invariant-loop-i goal.the-decreases-loop-i)
+  within = c.before.before.before.before.before.before
+
+  long : length (c.before within).loop.line ≡ 2112
+  long = c.read-arg-in-loop-i-1.given.0
+
+  small : nat_abs c.read-x.result.n ≤ M
+  small =
+      let l = (c.before within).loop.line in
+      taken-small l (at within) long (inside within) (valid within).fit.filter (place within)
+      c.read-x.ensures (valid within).line
+
+pub carry-t-requires : goal.carry-t-requires
+carry-t-requires c =
+    let w = within c in
+    let x = c.read-x.result.n in (
+      subst (λ (N : ℕ). Fed N (h w).filter.coefficients w.loop-i.v x) (sym (first w).requires.1.0.0)
+          (tuned-fed (valid w).fit.filter (small c)),
+      w.loop-i.inv.1,
+    )
+
+pub is_loud-requires : goal.is_loud-requires
+is_loud-requires c = c.heard-y.ensures.1
+
+pub shape_of-buffer-then-is_loud : goal.shape_of-buffer-then-is_loud
+shape_of-buffer-then-is_loud c = same (c.before (within c.before.before.before.before))
+
+pub returns-then-is_loud : goal.returns-then-is_loud
+returns-then-is_loud c = (c.before (within c.before.before.before.before)).loop.inv.0
+
+-- once its output is known to be within the limits
+module _ (c : goal.Else-is_loud) where
+  abbrev read : (lts.After-read2 tie.the-claims reads.Pre reads.Post goal.the-invariant-loop-i goal.the-decreases-loop-i)
+  read = c.before.before.before.before
+
+  abbrev around : (lts.In-loop tie.the-claims reads.Pre reads.Post goal.the-invariant-loop-i goal.the-decreases-loop-i)
+  around = within read
+
+  -- the output
+  abbrev y : ℤ
+  y = c.heard-y.result.n
+
+  y-small : nat_abs y ≤ M
+  y-small = leb-true (nat_abs y) M (not-false (leb (nat_abs y) M) (sym c.is_loud.ensures ∙ c.if-is_loud.false))
+
+  out-is : clip y ≡ out (taps_of (f around)) (filter_of (f around)) (c.before.before.before read).read.result.n
+  out-is =
+      let a = (first around).args in
+      let x = (c.before.before.before read).read.result.n in
+      c.heard-y.ensures.0
+      ∙ subst
+      (λ (N : ℕ). clip c.carry-t.result.y.n
+      ≡ out (taps N a.h.filter.coefficients) (held N (c.before around).loop.v) x)
+      (first around).requires.1.0.0
+      c.carry-t.ensures.0
+
+  next-is : c.carry-t.result.state ≡ stored (next (taps_of (f around)) (filter_of (f around))
+      (c.before.before.before read).read.result.n)
+  next-is =
+      let a = (first around).args in
+      let x = (c.before.before.before read).read.result.n in
+      subst
+      (λ (N : ℕ). c.carry-t.result.state
+      ≡ stored (next (taps N a.h.filter.coefficients) (held N (c.before around).loop.v) x))
+      (first around).requires.1.0.0
+      c.carry-t.ensures.1
+
+  input-small : nat_abs (input_of (first around).args.fed (c.before around).loop.buffer (c.before around).loop.i) ≤ M
+  input-small =
+      let l = (c.before around).loop in
+      reads (so_far around) (left around) (input-fed (first around).args.fed l.buffer l.i)
+
+pub newest-s-requires : goal.newest-s-requires
+newest-s-requires c =
+    let e = c.before in
+    let r = around e in
+    let v = (valid r).fit in
+    ((r.loop-i-test.true, input-small e), (v.loss, y-small e, v.last))
+
+pub led-n-requires : goal.led-n-requires
+led-n-requires c =
+    let t = read c.before.before in
+    let r = within t in
+    let s = (first r).requires.1 in
+    let a = (first r).args in
+    feeds (h r).waiting (h r) (led r.before) a.coming (length a.buffer.now) a.e s.0.2
+    (so_far r).1 (long t) s.1.1 s.1.3 (more_left r) t.read-g.ensures
+
+pub write-requires : goal.write-requires
+write-requires c =
+    let e = c.before.before.before.before in
+    ((around e).loop-test.true, y-small e)
+
+pub overflow_add-h : goal.overflow_add-h
+overflow_add-h c =
+    let r = around c.before.before.before.before.before.before.before.before in
+    omega (arith, here r, inside r)
+
+pub write-requires-in-loop-i : goal.write-requires-in-loop-i
+write-requires-in-loop-i c =
+    let n = c.before.before.before.before.before.before in
+    let e = n.before.before in
+    let r = around e in
+    let l = r.loop-i in
+    let a = (first r).args in
+    let x = input_of a.fed l.buffer l.i in
+    let u = (x +ℤ pos 0) +ℤ Q (pos a.h.loss *ℤ (y e +ℤ l.last.n)) in (
+      omega (arith, c.write-arg-in-loop-i-1.given.0.1, here r, inside r),
+      subst (λ (z : ℤ). nat_abs z ≤ M) (sym n.newest-s.ensures) (clip_abs u),
+    )
+
+pub overflow_add-i : goal.overflow_add-i
+overflow_add-i c =
+    let r = around (c.before.before.before.before.before.before.before.before.before.before.before) in omega (arith, more_left r, (first r).requires.1.1.2.0)
+
+pub loop-i-smaller : goal.loop-i-smaller
+loop-i-smaller c =
+    let r = around (c.before.before.before.before.before.before.before.before.before.before.before) in omega (arith, more_left r)
+
+pub loop-i-preserved : goal.loop-i-preserved
+loop-i-preserved c =
+    let b = c.before.before in
+    let k = b.before.before.before.before.before.before.before.before.before in
+    let t = k.before.before.before in
+    let g = read k in
+    let r = around k in
+    let l = r.loop-i in
+    let s = (first r).args in
+    let p = (first r).requires.1 in
+    let x = input_of s.fed l.buffer l.i in
+    let w = b.before.before.before.before in
+    let e = w.led-n in
+    let q = w.newest-s in
+    let o = t.carry-t.ensures in
+    let u = e.result in
+    let made = taken_circulates l.line (at r) (long g) (inside r) (valid r).fit.filter (place r)
+    g.read-x.ensures (small g) (next-is k) (y-small k) (out-is k) s.h.loss l.last.n x
+    q.ensures (here r) (on r) b.write-in-loop-i.ensures in
+    let m = moves s.h.waiting s.h (led r.before) s.coming (length s.buffer.now) s.e u p.0.2
+    (so_far r).1 (long g) p.1.1 p.1.3 (more_left r) g.read-g.ensures e.ensures in (
+      more (so_far r) (left r) (input-fed s.fed l.buffer l.i)
+          (goes s.h.waiting s.h (led r.before) u p.0.1 made m (so_far r).1)
+          (ap (fed_of s.fed (l.i + 1)) w.write.ensures
+          ∙ set-fed s.fed l.i l.buffer (y k) r.loop-i-test.true)
+          refl,
+      o.2,
+    )
+
+pub shape_of-buffer : goal.shape_of-buffer
+shape_of-buffer c = same c.before
+
+pub returns : goal.returns
+returns c = c.loop-i.invariant.0

@@ -1,0 +1,23 @@
+-- `mix::parts::mix_part` meets its contract: the sums of all six, clipped once.
+use mathlib.Core.Path.{ap, ◌∙◌}
+use mathlib.Core.List.{List, map}
+use borrow.Author.Rules.{rules}
+use lib.IntN.{ℤ}
+use Rattle.integer.specs.Rounding.{clip}
+use Rattle.loops.specs.Fed.{fed_of}
+use Rattle.strings.specs.Rows.{strings_of}
+use Rattle.mix.proofs.Added.{sums-clipped}
+use Rattle.mix.proofs.parts.mix_part.Goals as goal
+
+pub returns : goal.returns
+returns c =
+    let u = c.before.before.before.before.before.before in
+    let s = u.args in
+    let r = u.sum_strings.ensures in
+    record {
+      after = r.after;
+      out =
+          c.clip.ensures
+          ∙ ap (λ (l : List ℤ). map clip l) r.out
+          ∙ sums-clipped (strings_of s.heads.now s.lines.now) (fed_of s.fed 0 s.buffer.now);
+    }

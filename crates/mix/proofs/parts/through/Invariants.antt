@@ -1,0 +1,16 @@
+-- `mix::parts::through` meets its contract: part after part, what is left makes what the whole makes.
+use mathlib.Core.Path.{◌≡◌, refl, sym, ap, ◌∙◌}
+use Prim.Native.Nat.{ℕ, ◌+◌, ◌-◌, ◌≤◌, ◌<◌}
+use native.Mathlib.Omega.{arith}
+use borrow.Author.Rules.{rules}
+use borrow.Rule.Slice.PartMut.{mid_len}
+use lib.ListN.{length}
+use Rattle.mix.proofs.Went.{Went, begins, part-quiet, went_on, ends}
+use Rattle.mix.proofs.parts.through.Given as goal
+
+abbrev pub invariant-loop-i : goal.invariant-loop-i
+invariant-loop-i l =
+    Went l.fed l.initial.heads l.initial.lines l.initial.buffer l.heads l.lines l.buffer l.i × (length l.room ≡ 64) × (length l.sums ≡ 64)
+
+abbrev pub decreases-loop-i : goal.decreases-loop-i
+decreases-loop-i l = length l.initial.buffer - l.i

@@ -1,0 +1,28 @@
+-- `mix::play` meets its contract: a mix of zeros is accepted.
+use mathlib.Core.Path.{◌≡◌, sym, subst}
+use mathlib.Core.List.{List}
+use borrow.Author.Rules.{rules}
+use lib.IntN.{ℤ, pos}
+use lib.ListN.{length, replicate, length-replicate}
+use Rattle.loops.proofs.Fed.{cleared-zeros}
+use Rattle.render.proofs.Joined.{zeros-quiet}
+use Rattle.mix.specs.Rendered.{Mixes}
+use Rattle.mix.proofs.Mixed.{accepted}
+use Rattle.mix.proofs.play.Goals as goal
+
+pub through-requires : goal.through-requires
+through-requires c =
+    let s = c.before.before.before in
+    (s.requires, zeros-quiet s.args.output.now)
+
+pub returns : goal.returns
+returns c =
+    let r = c.through in
+    let s = c.args in
+    let b = s.output.now in
+    let n = length b in
+    let xs = replicate n (pos 0) in
+    let k = r.new in
+    accepted xs b (length-replicate n (pos 0)) (rw (← cleared-zeros b) (zeros-quiet b))
+    (subst (λ (ys : List ℤ). Mixes s.heads.now s.lines.now ys k.0 k.1.0 k.1.1.1.0)
+    (cleared-zeros b) r.ensures)

@@ -1,0 +1,48 @@
+-- `mix::row::render_string` meets its contract: the input copied and rendered in place, or zeros rendered.
+use mathlib.Core.Path.{◌≡◌, sym, ap, subst, ◌∙◌}
+use mathlib.Core.Bool.{Bool}
+use mathlib.Core.List.{List}
+use Prim.Native.Nat.{ℕ, ◌≤◌}
+use borrow.Author.Rules.{rules}
+use lib.IntN.{ℤ, pos}
+use lib.ListN.{replicate}
+use Rattle.integer.specs.Rounding.{M}
+use Rattle.samples.specs.Samples.{loudest}
+use Rattle.loops.specs.Fed.{fed_of}
+use Rattle.loops.proofs.Fed.{cleared-zeros}
+use Rattle.mix.specs.Rendered.{Rendered}
+use Rattle.mix.proofs.row.render_string.Goals as goal
+
+pub render_fed-requires : goal.render_fed-requires
+render_fed-requires c =
+    let p = c.before.before.before.before in
+    let t = p.before.before in
+    let s = t.before in (
+      s.requires.0.0,
+      subst (λ (xs : List ℤ). loudest xs ≤ M) (sym p.copy.ensures)
+          (subst (λ (b : Bool). loudest (fed_of b 0 s.args.input.now) ≤ M) t.if-fed.true s.requires.1),
+    )
+
+pub returns-then-fed : goal.returns-then-fed
+returns-then-fed c =
+    let p = c.before.before.before.before.before.before in
+    let t = p.before.before in
+    let s = t.args in
+    let r = c.render_fed in
+    subst (λ (xs : List ℤ). Rendered s.head.now s.line.now xs r.new.0 r.new.1.0
+    r.new.1.1.0)
+    (p.copy.ensures ∙ sym (ap (λ (b : Bool). fed_of b 0 s.input.now) t.if-fed.true))
+    r.ensures
+
+pub returns-else-fed : goal.returns-else-fed
+returns-else-fed c =
+    let t = c.before.before.before.before.before in
+    let s = t.args in
+    let r = c.render_unfed in
+    let xs = s.input.now in
+    subst (λ (xs : List ℤ). Rendered s.head.now s.line.now xs r.new.0 r.new.1.0
+    r.new.1.1.0)
+    (ap (λ (n : ℕ). replicate n (pos 0)) (sym t.requires.0.1)
+    ∙ sym (cleared-zeros xs)
+    ∙ sym (ap (λ (b : Bool). fed_of b 0 xs) t.if-fed.false))
+    r.ensures

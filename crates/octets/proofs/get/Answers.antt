@@ -1,0 +1,81 @@
+-- `octets::get` meets its contract: from the last byte to the first, n is what the bytes passed make.
+-- Assumes nothing.
+use mathlib.Core.Path.{◌≡◌, ◌∙◌}
+use mathlib.Core.List.{List}
+use Prim.Native.Nat.{ℕ, ◌+◌, ◌-◌, ◌*◌, ◌≤◌, ◌<◌, ◌^◌}
+use native.Mathlib.Nat.{lt_of_lt_of_le}
+use native.Mathlib.Omega.{arith}
+use borrow.Author.Rules.{rules}
+use lib.Pow.{pow_mono}
+use lib.ListN.{length, get_or, take, drop, length-take, length-drop}
+use lib.Seq.{get_or-take, get_or-drop}
+use Rattle.octets.specs.Octets.{number}
+use Rattle.octets.specs.Theorems.{Bytes}
+use Rattle.octets.proofs.Laws.{number-under, taken-under, taken-bytes, dropped-bytes}
+use Rattle.octets.proofs.Laws.{none_left, one_more}
+use Rattle.octets.proofs.get.Goals as goal
+use Rattle.octets.proofs.get.Lts as lts
+use Rattle.octets.proofs.get.Reads as reads
+use Rattle.octets.proofs.get.Tie as tie
+
+abbrev part : List ℕ → ℕ → ℕ → List ℕ
+part s at width = take width (drop at s)
+
+part_length : (s : List ℕ) (at width : ℕ) → at + width ≤ length s → length (part s at width) ≡ width
+part_length s at width h = omega (arith, length-take width (drop at s), length-drop at s)
+
+part_at : (s : List ℕ) (at width k : ℕ) → k < width → get_or (part s at width) k 0 ≡ get_or s (at + k) 0
+part_at s at width k h = get_or-take width (drop at s) k 0 h ∙ get_or-drop at s k 0
+
+-- what seven bytes make is below 2^56
+small : (s : List ℕ) (at width k n : ℕ) → Bytes s → width ≤ 8 → at + width ≤ length s → 0 < k
+    → n ≡ number (drop k (part s at width)) → n < 2 ^ 56
+small s at width k n b w l h e =
+    let xs = drop k (part s at width) in
+    let r : 8 * length xs ≤ 56 = omega (arith, length-drop k (part s at width), part_length s at width l) in
+    let under = number-under xs (dropped-bytes k _ (taken-bytes width (drop at s) (dropped-bytes at s b))) in
+    rw e (lt_of_lt_of_le under (pow_mono r))
+
+pub loop-k-init : goal.loop-k-init
+loop-k-init c =
+    let a = c.args in
+    let l = part_length a.s.now a.at a.width c.requires.1 in
+    (omega arith, none_left (part a.s.now a.at a.width) a.width (omega (arith, l)))
+
+-- the bytes of the slice, and the number so far, in a turn
+all-bytes : (c : (lts.At-loop tie.the-claims reads.Pre reads.Post goal.the-invariant-loop-k goal.the-decreases-loop-k)) → Bytes c.args.s.now
+all-bytes c i = omega (arith, c.shared_slice_known-1.given i)
+
+turn_small : (c : goal.In-loop-k) → c.loop-k.n < 2 ^ 56
+turn_small c =
+    let s = c.before.before.before in
+    let a = s.args in
+    let l = c.loop-k in
+    small a.s.now a.at a.width l.k l.n (all-bytes c.before) s.requires.0 s.requires.1
+    c.loop-k-test.true l.invariant.1
+
+pub overflow_mul-n : goal.overflow_mul-n
+overflow_mul-n c = omega (arith, turn_small c)
+
+pub overflow_add-n : goal.overflow_add-n
+overflow_add-n c = omega (arith, turn_small c.before.before, c.wide.ensures.1)
+
+pub loop-k-preserved : goal.loop-k-preserved
+loop-k-preserved c =
+    let l = c.loop-k in
+    let s = c.before.before.before.before.before in
+    let a = s.args in
+    let xs = part a.s.now a.at a.width in
+    let b = part_at a.s.now a.at a.width (l.k - 1) (omega arith) in
+    let n = part_length a.s.now a.at a.width s.requires.1 in
+    let more = one_more xs l.k l.n (omega arith) (omega (arith, n)) l.invariant.1 in
+    (omega arith, rw (c.wide.ensures.0, ← b) more)
+
+pub returns : goal.returns
+returns c =
+    let a = c.args in
+    let z : c.loop-k.k ≡ 0 = omega arith in
+    let e = rw z at c.loop-k.invariant.1 in
+    let b = dropped-bytes a.at a.s.now (all-bytes c.before) in
+    let u = taken-under a.width (drop a.at a.s.now) b in
+    (e, rw e u)

@@ -1,0 +1,12 @@
+-- `print::room` meets its contract: by whether 64 bytes are left.
+-- Assumes nothing.
+use native.Mathlib.Omega.{arith}
+use borrow.Author.Rules.{rules}
+use Rattle.print.specs.Printed.{left, made}
+use Rattle.print.proofs.room.Goals as goal
+
+pub returns-then-at-le4032 : goal.returns-then-at-le4032
+returns-then-at-le4032 c = (omega arith, left c.if-at-le4032.true)
+
+pub returns : goal.returns
+returns c = (c.flush.ensures.0, made (omega (arith, c.if-at-le4032.false)) c.flush.ensures.1)

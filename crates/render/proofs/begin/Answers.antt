@@ -1,0 +1,8 @@
+-- `render::begin` meets its contract: that of a loop with nothing coming in.
+-- Assumes nothing.
+use borrow.Author.Rules.{rules}
+use Rattle.render.proofs.Joined.{zeros-quiet}
+use Rattle.render.proofs.begin.Goals as goal
+
+pub quiet-requires : goal.quiet-requires
+quiet-requires c = let s = c.before.before in (s.requires, zeros-quiet s.args.buffer.now)

@@ -1,0 +1,10 @@
+-- `render::reach::sung` meets its contract: by what waits.
+-- Assumes nothing.
+use native.Mathlib.Omega.{arith}
+use borrow.Author.Rules.{rules}
+use Rattle.render.proofs.reach.sung.Goals as goal
+
+pub returns-in-Prepared : goal.returns-in-Prepared
+returns-in-Prepared c =
+    let s = c.before.before in
+    (omega arith, (omega (arith, s.requires.at), omega arith), λ h. absurd (omega arith))

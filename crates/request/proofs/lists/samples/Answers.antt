@@ -1,0 +1,15 @@
+-- `request::lists::samples` meets its contract: at most as many are read as the array has places.
+-- Assumes nothing.
+use mathlib.Core.Path.{◌≡◌}
+use Prim.Native.Nat.{◌-◌, ◌≤◌}
+use native.Mathlib.Omega.{arith}
+use borrow.Author.Rules.{rules}
+use lib.ListN.{length, length-set}
+use Rattle.request.proofs.lists.samples.Goals as goal
+
+pub loop-k-preserved : goal.loop-k-preserved
+loop-k-preserved c =
+    let l = c.loop-k in (
+      simp length-set l.invariant.0,
+      omega arith,
+    )

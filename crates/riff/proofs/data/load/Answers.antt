@@ -1,0 +1,56 @@
+-- `riff::data::load` meets its contract: the samples below i are read.
+-- Assumes nothing.
+use mathlib.Core.Path.{◌≡◌, refl, sym, ◌∙◌}
+use mathlib.Core.List.{List, map}
+use Prim.Native.Nat.{ℕ, ◌-◌, ◌<◌}
+use native.Mathlib.Omega.{arith}
+use borrow.Author.Rules.{rules}
+use lib.IntN.{ℤ}
+use lib.ListN.{length, drop, length-map}
+use Rattle.integer.specs.Rounding.{clip}
+use Rattle.integer.proofs.Rounding.{clip_abs}
+use Rattle.samples.proofs.Taken.{Taken, one_more, all-taken}
+use Rattle.octets.specs.Octets.{loaded}
+use Rattle.octets.proofs.Lists.{loaded-length}
+use Rattle.riff.proofs.Samples.{sample-at}
+use Rattle.riff.proofs.data.load.Goals as goal
+
+-- what n samples of the file s read as
+abbrev all : List ℕ → ℕ → List ℤ
+all s n = map clip (loaded 3 n (drop 44 s))
+
+all-length : (s : List ℕ) (n : ℕ) → length (all s n) ≡ n
+all-length s n = length-map (loaded 3 n (drop 44 s)) clip ∙ loaded-length 3 n (drop 44 s)
+
+pub loop-i-init : goal.loop-i-init
+loop-i-init c =
+    let a = c.args in
+    let l = all-length a.file.now (length a.samples.now) in
+    (refl, record { within = omega arith; long = sym l; same = refl })
+
+pub write-requires : goal.write-requires
+write-requires c = (omega (arith, c.loop-i-test.true), rw c.sample.ensures (clip_abs _))
+
+pub loop-i-preserved : goal.loop-i-preserved
+loop-i-preserved c =
+    let w = c.before in
+    let i = w.before.before.before in
+    let l = i.loop-i in
+    let a = i.args in
+    let s = a.file.now in
+    let n = length a.samples.now in
+    let h : l.i < n = omega (arith, i.loop-i-test.true, l.invariant.0) in
+    let y = w.sample.result.n in (
+      w.write.auto.0 ∙ l.invariant.0,
+      rw w.write.ensures
+          (one_more (all s n) l.samples l.i l.invariant.1 y (omega (arith, all-length s n))
+          (w.sample.ensures ∙ sym (sample-at s n l.i h))),
+    )
+
+pub returns : goal.returns
+returns c =
+    let l = c.loop-i in
+    let a = c.args in
+    let s = a.file.now in
+    let n = length a.samples.now in
+    all-taken (all s n) l.samples l.i l.invariant.1 (omega (arith, all-length s n))

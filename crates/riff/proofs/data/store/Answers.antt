@@ -1,0 +1,58 @@
+-- `riff::data::store` meets its contract: what is left, laid from the next place on, makes the whole.
+-- Assumes nothing.
+use mathlib.Core.Path.{◌≡◌, refl, sym, ap, ◌∙◌}
+use mathlib.Core.List.{List}
+use Prim.Native.Nat.{ℕ, ◌+◌, ◌-◌, ◌*◌, ◌≤◌}
+use native.Mathlib.Omega.{arith}
+use borrow.Author.Rules.{rules}
+use lib.IntN.{ℤ, pos}
+use lib.ListN.{length, get_or, drop}
+use Rattle.samples.proofs.Samples.{loud}
+use Rattle.octets.specs.Octets.{bytes, bits, stored, laid}
+use Rattle.octets.proofs.Laws.{bytes-length, laid_nil, laid_next}
+use Rattle.octets.proofs.Lists.{stored-step, stored-end}
+use Rattle.riff.proofs.data.store.Goals as goal
+
+pub loop-i-init : goal.loop-i-init
+loop-i-init c = (omega arith, refl, refl)
+
+pub bits-requires : goal.bits-requires
+bits-requires c =
+    let l = c.before.before.before in
+    let s = l.before.before in
+    rw c.read.ensures (omega (arith, loud s.args.samples.now l.loop-i.i, s.requires.1))
+
+pub loop-i-preserved : goal.loop-i-preserved
+loop-i-preserved c =
+    let p = c.before.before in
+    let b = p.before in
+    let i = b.before.before.before in
+    let l = i.loop-i in
+    let s = i.before.before.before in
+    let xs = s.args.samples.now in
+    let x = bytes 3 (bits 3 (get_or xs l.i (pos 0))) in
+    let q = stored 3 (drop (l.i + 1) xs) in
+    let n = bytes-length 3 (bits 3 (get_or xs l.i (pos 0))) in
+    let room : 44 + 3 * l.i + length x ≤ length l.file
+    = omega (arith, n, s.requires.0, i.loop-i-test.true, l.invariant.1) in
+    let lay : List ℕ → List ℕ = λ (t : List ℕ). laid l.file (44 + 3 * l.i) t in
+    let e : p.put.new.0 ≡ lay x
+    = p.put.ensures
+    ∙ ap lay (b.bits.ensures 3 refl)
+    ∙ ap (λ (z : ℤ). lay (bytes 3 (bits 3 z))) b.read.ensures in (
+      omega (arith, i.loop-i-test.true),
+      p.put.auto.0 ∙ l.invariant.1,
+      ap (λ (d : List ℕ). laid d (44 + 3 * (l.i + 1)) q) e
+          ∙ laid_next l.file (44 + 3 * l.i) x room (44 + 3 * (l.i + 1)) q (omega (arith, n))
+          ∙ ap lay (sym (stored-step 3 xs l.i i.loop-i-test.true))
+          ∙ l.invariant.2,
+    )
+
+pub returns : goal.returns
+returns c =
+    let l = c.loop-i in
+    let xs = c.args.samples.now in
+    sym
+    (ap (λ (t : List ℕ). laid l.file (44 + 3 * l.i) t) (stored-end 3 xs l.i (omega arith))
+    ∙ laid_nil l.file (44 + 3 * l.i))
+    ∙ l.invariant.2

@@ -1,0 +1,23 @@
+-- `riff::data::store` meets its contract: what is left, laid from the next place on, makes the whole.
+-- Assumes nothing.
+use mathlib.Core.Path.{◌≡◌, refl, sym, ap, ◌∙◌}
+use mathlib.Core.List.{List}
+use Prim.Native.Nat.{ℕ, ◌+◌, ◌-◌, ◌*◌, ◌≤◌}
+use native.Mathlib.Omega.{arith}
+use borrow.Author.Rules.{rules}
+use lib.IntN.{ℤ, pos}
+use lib.ListN.{length, get_or, drop}
+use Rattle.samples.proofs.Samples.{loud}
+use Rattle.octets.specs.Octets.{bytes, bits, stored, laid}
+use Rattle.octets.proofs.Laws.{bytes-length, laid_nil, laid_next}
+use Rattle.octets.proofs.Lists.{stored-step, stored-end}
+use Rattle.riff.proofs.data.store.Given as goal
+
+abbrev pub invariant-loop-i : goal.invariant-loop-i
+invariant-loop-i l =
+    (l.i ≤ length l.samples)
+    × (length l.file ≡ length l.initial.file)
+    × (laid l.file (44 + 3 * l.i) (stored 3 (drop l.i l.samples)) ≡ laid l.initial.file 44 (stored 3 l.samples))
+
+abbrev pub decreases-loop-i : goal.decreases-loop-i
+decreases-loop-i l = length l.samples - l.i

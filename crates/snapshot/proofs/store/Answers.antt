@@ -1,0 +1,11 @@
+-- `snapshot::store` meets its contract: the voice is stored that the words and the line are.
+use borrow.Author.Rules.{rules}
+use Rattle.snapshot.proofs.store.Goals as goal
+
+pub store-s-requires : goal.store-s-requires
+store-s-requires c = rw c.unpack-h.ensures c.requires
+
+pub returns : goal.returns
+returns c =
+    let s = c.before.before in
+    rw (← s.unpack-h.ensures) s.store-s.ensures

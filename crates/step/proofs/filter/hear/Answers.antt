@@ -1,0 +1,13 @@
+-- `step::filter::hear` meets its contract: a tuned filter is fed, gives its output, and is tuned afterwards.
+-- Assumes nothing.
+use Rattle.step.proofs.Filters.{tuned-fed, tuned-hears}
+use Rattle.step.proofs.filter.hear.Goals as goal
+
+pub allpass-o-requires : goal.allpass-o-requires
+allpass-o-requires c = let i = c.requires in tuned-fed i.0 i.1
+
+pub returns : goal.returns
+returns c =
+    let o = c.before.before in
+    let i = o.requires in
+    tuned-hears i.0 i.1 o.allpass-o.ensures.0 o.allpass-o.ensures.1

@@ -1,0 +1,20 @@
+use mathlib.Core.Path.{subst}
+use Rattle.voice.specs.declared.Waiting.{Waiting}
+use Rattle.store.specs.Coming.{Quiet}
+use borrow.Author.Rules.{rules}
+use Rattle.store.proofs.coming_of.Reads as reads
+use Rattle.store.proofs.coming_of.Lts as lts
+use Rattle.store.proofs.prepared.Reads as prepared-reads
+use Rattle.store.proofs.coming_of.Goals as goal
+
+-- src/lib.rt:298:39
+pub prepared-requires : goal.prepared-requires
+prepared-requires c = subst (λ (w : Waiting). Quiet w) c.x-1.given.1 c.requires
+
+-- src/lib.rt:283:1
+pub returns-in-Idle : goal.returns-in-Idle
+returns-in-Idle c = rw c.enum_told-1.given.1
+
+-- src/lib.rt:283:1
+pub returns-in-Prepared : goal.returns-in-Prepared
+returns-in-Prepared c = rw c.x-1.given.1 c.prepared.ensures

@@ -1,0 +1,25 @@
+-- `strings::changes::announce` meets its contract: 24, or the call on the row.
+use native.Mathlib.Omega.{arith}
+use borrow.Author.Rules.{rules}
+use Rattle.rule.specs.Calls.{announce}
+use Rattle.rule.specs.Voice.{tuning}
+use Rattle.instrument.specs.Strings.{calls}
+use Rattle.strings.proofs.Rows.{called-above, called}
+use Rattle.strings.proofs.changes.announce.Goals as goal
+
+pub returns-then-string-gt5 : goal.returns-then-string-gt5
+returns-then-string-gt5 c =
+    let s = c.args in
+    called-above s.string (calls (announce (tuning s.order s.length s.delay)))
+    (omega (arith, c.if-string-gt5.true))
+
+pub announce-requires : goal.announce-requires
+announce-requires c =
+    let s = c.before.before in
+    s.requires.fit s.args.string (omega arith)
+
+pub returns : goal.returns
+returns c =
+    let s = c.before.before.before in
+    called s.args.string (announce (tuning s.args.order s.args.length s.args.delay)) _
+    s.requires (omega arith) c.announce.ensures

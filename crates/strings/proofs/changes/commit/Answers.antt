@@ -1,0 +1,22 @@
+-- `strings::changes::commit` meets its contract: 24, or the call on the row.
+use native.Mathlib.Omega.{arith}
+use borrow.Author.Rules.{rules}
+use Rattle.rule.specs.Calls.{commit}
+use Rattle.instrument.specs.Strings.{calls}
+use Rattle.strings.proofs.Rows.{called-above, called}
+use Rattle.strings.proofs.changes.commit.Goals as goal
+
+pub returns-then-string-gt5 : goal.returns-then-string-gt5
+returns-then-string-gt5 c =
+    let s = c.args in
+    called-above s.string (calls commit) (omega (arith, c.if-string-gt5.true))
+
+pub commit-requires : goal.commit-requires
+commit-requires c =
+    let s = c.before.before in
+    s.requires.fit s.args.string (omega arith)
+
+pub returns : goal.returns
+returns c =
+    let s = c.before.before.before in
+    called s.args.string commit _ s.requires (omega arith) c.commit.ensures

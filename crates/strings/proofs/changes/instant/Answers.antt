@@ -1,0 +1,37 @@
+-- `strings::changes::instant` meets its contract: 24 and the count 0, or the call on the row.
+use mathlib.Core.Path.{sym, ◌∙◌}
+use native.Mathlib.Omega.{arith}
+use borrow.Author.Rules.{rules}
+use borrow.Author.Tests.{lt-ltb}
+use Rattle.rule.specs.Calls as C
+use Rattle.rule.specs.Calls.{instant}
+use Rattle.rule.specs.Voice.{tuning}
+use Rattle.instrument.specs.Strings.{calls, counted}
+use Rattle.instrument.proofs.Apart.{count-itself}
+use Rattle.strings.specs.Rows.{strings_of}
+use Rattle.strings.proofs.Rows.{played-above, played-still, none-counted}
+use Rattle.strings.proofs.changes.instant.Goals as goal
+
+pub returns-then-string-gt5 : goal.returns-then-string-gt5
+returns-then-string-gt5 c =
+    let s = c.args in
+    let a = calls (instant (tuning s.order s.length s.delay)) in (
+      played-above s.string a c.requires (omega (arith, c.if-string-gt5.true)),
+      none-counted (strings_of s.heads.now s.lines.now) s.string a (omega (arith, c.if-string-gt5.true)),
+    )
+
+pub instant-requires : goal.instant-requires
+instant-requires c =
+    let s = c.before.before.before.before in
+    s.requires.valid s.args.string (omega arith)
+
+pub returns : goal.returns
+unfolding C.number
+returns c =
+    let s = c.before.before.before.before.before in
+    let k = s.args.string in
+    let a = calls (instant (tuning s.args.order s.args.length s.args.delay)) in
+    let r = c.instant.ensures in (
+      played-still k a _ s.requires (omega arith) r.0.number r.0.state r.0.valid,
+      r.1 ∙ sym (count-itself k (omega arith) (strings_of s.args.heads.now s.args.lines.now) a),
+    )

@@ -1,0 +1,22 @@
+-- `strings::changes::withdraw` meets its contract: 24, or the call on the row.
+use native.Mathlib.Omega.{arith}
+use borrow.Author.Rules.{rules}
+use Rattle.rule.specs.Calls.{withdraw}
+use Rattle.instrument.specs.Strings.{calls}
+use Rattle.strings.proofs.Rows.{called-above, called}
+use Rattle.strings.proofs.changes.withdraw.Goals as goal
+
+pub returns-then-string-gt5 : goal.returns-then-string-gt5
+returns-then-string-gt5 c =
+    let s = c.args in
+    called-above s.string (calls withdraw) (omega (arith, c.if-string-gt5.true))
+
+pub withdraw-requires : goal.withdraw-requires
+withdraw-requires c =
+    let s = c.before.before in
+    s.requires.fit s.args.string (omega arith)
+
+pub returns : goal.returns
+returns c =
+    let s = c.before.before.before in
+    called s.args.string withdraw _ s.requires (omega arith) c.withdraw.ensures

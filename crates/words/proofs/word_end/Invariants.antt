@@ -1,0 +1,18 @@
+-- `words::word_end` meets its contract: no byte passed is a blank.
+-- Assumes nothing.
+use mathlib.Core.Path.{◌≡◌, sym, ◌∙◌}
+use mathlib.Core.Bool.{false}
+use Prim.Native.Nat.{ℕ, ◌-◌, ◌≤◌, ◌<◌}
+use native.Mathlib.Omega.{arith}
+use borrow.Author.Rules.{rules}
+use lib.ListN.{length, get_or}
+use Rattle.words.specs.Words.{blank}
+use Rattle.words.proofs.Places.{from_more}
+use Rattle.words.proofs.word_end.Given as goal
+
+abbrev pub invariant-loop-i : goal.invariant-loop-i
+invariant-loop-i l =
+    (l.start ≤ l.i) × (l.i ≤ length l.s) × ((k : ℕ) → l.start ≤ k → k < l.i → blank (get_or l.s k 0) ≡ false)
+
+abbrev pub decreases-loop-i : goal.decreases-loop-i
+decreases-loop-i l = length l.s - l.i
