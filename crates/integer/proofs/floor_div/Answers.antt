@@ -27,7 +27,7 @@ module _ (c : (lts.Start reads.Pre reads.Post)) where
 
 pub nonzero_div-q : goal.nonzero_div-q
 nonzero_div-q c =
-    let s = c.before.before in
+    let s = c.before.before.before in
     let f : SFits w64 (u s) = record { sfits = c.struct_told-1.given.0.1 } in
     rw (to_z-of_z f, m-read s) (s.requires.0, quot_fits (m s) f)
 
