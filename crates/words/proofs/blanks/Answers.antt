@@ -6,7 +6,6 @@ use Prim.Native.Nat.{ℕ, ◌-◌, ◌≤◌, ◌<◌}
 use native.Mathlib.Omega.{arith}
 use borrow.Author.Count.{below_more}
 use borrow.Author.Rules.{rules}
-use borrow.Author.Tests.{not-true, not-false}
 use lib.ListN.{length, get_or}
 use Rattle.words.specs.Words.{blank}
 use Rattle.words.proofs.blanks.Goals as goal
@@ -21,7 +20,7 @@ returns-then-not-is_blank c =
     record {
       within = l.invariant.0;
       blanks = l.invariant.1;
-      here = λ h. sym b.is_blank.ensures ∙ not-true _ c.if-not-is_blank.true;
+      here = λ h. sym b.is_blank.ensures ∙ c.if-not-is_blank.true;
     }
 
 pub loop-i-preserved : goal.loop-i-preserved
@@ -31,7 +30,7 @@ loop-i-preserved c =
     let s = a.args.s.now in (
       search rules,
       below_more (λ (k : ℕ). blank (get_or s k 0) ≡ true) a.loop-i.i a.loop-i.invariant.1
-          (sym b.is_blank.ensures ∙ not-false _ c.if-not-is_blank.false),
+          (sym b.is_blank.ensures ∙ c.if-not-is_blank.false),
     )
 
 pub returns : goal.returns
