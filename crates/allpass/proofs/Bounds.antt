@@ -23,11 +23,11 @@ head-within x (more p h) = p
 pub tail_within : {B : ℕ} {x : ℤ} {v : List ℤ} → Within B (x ∷ v) → Within B v
 tail_within (more p h) = h
 
-pub shift-within : {v : List ℤ} (w : ℤ) {B : ℕ} → nat_abs w ≤ B → Within B v → Within B (shift w v)
+pub shift-within : {B : ℕ} {v : List ℤ} (w : ℤ) → nat_abs w ≤ B → Within B v → Within B (shift w v)
 shift-within w k none = none
 shift-within w k (more {x} p h) = more k (shift-within x p h)
 
-pub final-within : {v : List ℤ} (x : ℤ) {B : ℕ} → nat_abs x ≤ B → Within B v → nat_abs (final x v) ≤ B
+pub final-within : {B : ℕ} {v : List ℤ} (x : ℤ) → nat_abs x ≤ B → Within B v → nat_abs (final x v) ≤ B
 final-within x k none = k
 final-within x k (more {x = y} p h) = final-within y p h
 
@@ -96,12 +96,12 @@ dot_close (a ∷ A) none = omega arith
 dot_close (a ∷ A) (more {x} {y} {v} {u} p h) =
     omega (arith, add-near (a *ℤ x) (a *ℤ y) (dot A v) (dot A u) (mul-near a x y p) (dot_close A h))
 
-shift_close : {v u : List ℤ} (x y : ℤ) {D : ℕ} → nat_abs (x -ℤ y) ≤ D → Close D v u
+shift_close : {D : ℕ} {v u : List ℤ} (x y : ℤ) → nat_abs (x -ℤ y) ≤ D → Close D v u
     → Close D (shift x v) (shift y u)
 shift_close x y k none = none
 shift_close x y k (more {x = x'} {y = y'} p h) = more k (shift_close x' y' p h)
 
-final_close : {v u : List ℤ} (x y : ℤ) {D : ℕ} → nat_abs (x -ℤ y) ≤ D → Close D v u
+final_close : {D : ℕ} {v u : List ℤ} (x y : ℤ) → nat_abs (x -ℤ y) ≤ D → Close D v u
     → nat_abs (final x v -ℤ final y u) ≤ D
 final_close x y k none = k
 final_close x y k (more {x = x'} {y = y'} p h) = final_close x' y' p h

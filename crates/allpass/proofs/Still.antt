@@ -34,5 +34,5 @@ module _ (A : List ℤ) {v : List ℤ} (f : ℤ) {B : ℕ} (n : norm A * B < 655
   out-still k m =
       let still : Within B (next A v f) = rw next-still (shift-within f k h) in
       let turned : norm (reverse A) * B < 65536 = rw (norm-reverse A []) (omega arith) in
-      let last : nat_abs (final (pos 0) v) ≤ M = omega (arith, final-within (pos 0) {B = B} (omega arith) h) in
+      let last : nat_abs (final (pos 0) v) ≤ M = omega (arith, final-within {B = B} (pos 0) (omega arith) h) in
       rw (R-nothing (reverse A) turned still, +ℤ_idr (final (pos 0) v)) (clip-kept (final (pos 0) v) last)

@@ -95,7 +95,7 @@ module _ (v : State) (w : Whole v) (b : ℕ) (n : norm (A v.voice.tuning) * b < 
   sounds-still = out-still (A u.tuning) f n inside taken m
 
   pub sounds-small : nat_abs (sounds v) ≤ b
-  sounds-small = rw sounds-still (final-within (pos 0) {B = b} (omega arith) inside)
+  sounds-small = rw sounds-still (final-within {B = b} (pos 0) (omega arith) inside)
 
   pub written_small : nat_abs s ≤ b - 1
   unfolding written sounds
