@@ -14,9 +14,9 @@ use Rattle.integer.specs.Parts.{up, dn}
 use Rattle.integer.proofs.View.{Zs, +v, -v, absv, onev, vfit, fit-dn}
 use Rattle.write.specs.Written.{Spelled, Negative, Signed}
 
-non_neg : (z : ℤ) → dn z ≡ 0 → T (non_neg z)
-non_neg (pos n) e = tt
-non_neg (negsuc n) e = absurd (omega arith)
+no-dn : (z : ℤ) → dn z ≡ 0 → T (non_neg z)
+no-dn (pos n) e = tt
+no-dn (negsuc n) e = absurd (omega arith)
 
 -- a number below zero: one more than it, and that turned round
 module _ (x : ℤ) (f : SFits w64 x) (l : lt_z x (pos 0) ≡ true) where
@@ -33,7 +33,7 @@ module _ (x : ℤ) (f : SFits w64 x) (l : lt_z x (pos 0) ≡ true) where
   parts = omega (Zs, +v x (pos 1), onev x, -v (pos 0) (x +ℤ pos 1), onev turned)
 
   pub turned_up : T (non_neg turned)
-  turned_up = non_neg turned parts.0
+  turned_up = no-dn turned parts.0
 
   pub magnitude : nat_abs turned + 1 ≡ nat_abs x
   magnitude = omega (arith, parts, absv turned, absv x)

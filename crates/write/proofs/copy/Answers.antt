@@ -24,7 +24,7 @@ kept c =
     c.loop-i.invariant.0
 
 pub bounds-buffer-at : goal.bounds-buffer-at
-bounds-buffer-at c = omega (arith, kept c.before.before)
+bounds-buffer-at c = omega (arith, kept c.before.before.before)
 
 pub loop-i-preserved : goal.loop-i-preserved
 loop-i-preserved c =
@@ -37,7 +37,7 @@ loop-i-preserved c =
     )
 
 pub shape_of-buffer : goal.shape_of-buffer
-shape_of-buffer c = kept c.before
+shape_of-buffer c = kept c.before.before
 
 pub returns : goal.returns
 returns c =
