@@ -3,7 +3,6 @@
 use mathlib.Core.Path.{◌≡◌, sym, ap, ◌∙◌}
 use Prim.Native.Nat.{ℕ, ◌≤◌}
 use native.Mathlib.Omega.{arith}
-use borrow.Author.Rules.{rules}
 use lib.IntN.{ℤ, pos, nat_abs}
 use lib.ListN.{get_or}
 use mir.Syntax.{w32, w64}
@@ -71,10 +70,10 @@ pub set-c-requires : goal.set-c-requires
 set-c-requires c = taken c
 
 pub overflow_cast-result : goal.overflow_cast-result
-overflow_cast-result c = (first c.before.before).0
+overflow_cast-result c = (first c.before.before.before).0
 
 pub overflow_cast-result-2 : goal.overflow_cast-result-2
-overflow_cast-result-2 c = (second c.before.before.before.before).0
+overflow_cast-result-2 c = (second c.before.before.before.before.before).0
 
 pub overflow_cast-result-3 : goal.overflow_cast-result-3
 overflow_cast-result-3 c = (third c.before.before.before.before.before.before).0

@@ -1,6 +1,6 @@
 -- `thiran::formula::next` meets its contract: one step of `part`, whose factors fit (proofs/Steps.antt).
 -- Assumes nothing.
-use mathlib.Core.Path.{◌≡◌, refl, sym, ap, subst}
+use mathlib.Core.Path.{◌≡◌, sym, ap, subst}
 use Prim.Native.Nat.{ℕ, suc, ◌+◌, ◌*◌, ◌^◌, ◌<◌}
 use native.Mathlib.Omega.{arith}
 use native.Mathlib.Numerals.{add-one}
@@ -10,7 +10,7 @@ use mir.Syntax.{w64}
 use mir.Val.{SFits, to_z, of_z}
 use mir.Facts.{to_z-of_z}
 use mir.ValLaws.{to_z_pos}
-use Rattle.integer.proofs.View.{read, abs_fits, vfit, -v}
+use Rattle.integer.proofs.View.{abs_fits, vfit, -v}
 use Rattle.thiran.specs.Steps.{step, part, Roundable}
 use Rattle.thiran.proofs.Steps.{upper, upper_small, lower_small, roundable}
 use Rattle.thiran.proofs.formula.next.Goals as goal
@@ -57,9 +57,6 @@ module _ (c : goal.Start) where
   top-fits : SFits w64 (c.args.p.top *ℤ upper N d k)
   top-fits = abs_fits w64 (c.args.p.top *ℤ upper N d k) (let f = next_fits in omega arith)
 
-p-read : (c : goal.After-struct_told-1) → let z = c.args.p.top in to_z w64 (of_z w64 z) ≡ z
-p-read c = read w64 c.args.p.top c.struct_told-1.given.0.1 refl
-
 pub overflow_sub-n : goal.overflow_sub-n
 overflow_sub-n c = (n c).0
 
@@ -74,10 +71,12 @@ overflow_mul-result c = rw ((n c).1, (x c).1) (upper_fits c)
 
 pub overflow_mul-result-2 : goal.overflow_mul-result-2
 overflow_mul-result-2 c =
-    let s = c.before.before in rw (p-read c, (n s).1, (x s).1, to_z-of_z (upper_fits s)) (top-fits s)
+    let s = c.before.before.before in
+    let p : (to_z w64 (of_z w64 c.args.p.top) ≡ c.args.p.top) = search rules in
+    rw (p, (n s).1, (x s).1, to_z-of_z (upper_fits s)) (top-fits s)
 
 pub overflow_cast-result : goal.overflow_cast-result
-overflow_cast-result c = omega (arith, lower-fits c.before.before)
+overflow_cast-result c = omega (arith, lower-fits c.before.before.before)
 
 pub overflow_mul-result-3 : goal.overflow_mul-result-3
 overflow_mul-result-3 c =
@@ -85,6 +84,6 @@ overflow_mul-result-3 c =
 
 pub returns : goal.returns
 returns c =
-    let b = c.before in
-    let s = b.before.before in
-    rw (p-read b, (n s).1, (x s).1, to_z-of_z (upper_fits s), to_z-of_z (top-fits s), add-one (k s)) (next-part s)
+    let s = c.before.before.before in
+    let p : (to_z w64 (of_z w64 c.args.p.top) ≡ c.args.p.top) = search rules in
+    rw (p, (n s).1, (x s).1, to_z-of_z (upper_fits s), to_z-of_z (top-fits s), add-one (k s)) (next-part s)
