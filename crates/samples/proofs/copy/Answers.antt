@@ -1,14 +1,12 @@
 -- `samples::copy` meets its contract: the output agrees with the input below i.
 -- Assumes nothing.
 use mathlib.Core.Path.{refl}
-use Prim.Native.Nat.{◌-◌}
 use native.Mathlib.Omega.{arith}
-use borrow.Author.Rules.{rules}
 use lib.IntN.{pos}
-use lib.ListN.{length, get_or}
+use lib.ListN.{get_or}
 use mir.Syntax.{w32}
 use Rattle.integer.proofs.View.{read}
-use Rattle.samples.proofs.Taken.{Taken, one_more, all-taken}
+use Rattle.samples.proofs.Taken.{one_more, all-taken}
 use Rattle.samples.proofs.copy.Goals as goal
 
 pub loop-i-init : goal.loop-i-init

@@ -6,7 +6,6 @@ use Prim.Native.Nat.{ℕ, ◌≤◌, ◌<◌}
 use borrow.Author.Tests.{le-leb, lt-leb}
 use lib.Dec.{leb}
 use mir.Syntax.{w64}
-use Rattle.integer.specs.Rounding.{M}
 use Rattle.integer.proofs.View.{absv, near, read, Zs}
 use Rattle.samples.proofs.is_sample.Goals as goal
 

@@ -1,14 +1,11 @@
 -- `samples::loudest` meets its contract: the top so far and what is left have the largest magnitude of all.
 -- Assumes nothing.
-use mathlib.Core.Path.{◌≡◌, refl}
-use Prim.Native.Nat.{◌-◌, ◌≤◌, max}
+use mathlib.Core.Path.{refl}
 use native.Mathlib.Omega.{arith}
-use borrow.Author.Rules.{rules}
 use lib.IntN.{pos}
-use lib.ListN.{length, drop, get_or}
+use lib.ListN.{get_or}
 use mir.Syntax.{w32}
 use Rattle.integer.proofs.View.{read}
-use Rattle.samples.specs.Samples.{loudest}
 use Rattle.samples.proofs.Samples.{loudest-from, loudest-end}
 use Rattle.samples.proofs.loudest.Goals as goal
 

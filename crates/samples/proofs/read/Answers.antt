@@ -1,7 +1,6 @@
 -- `samples::read` meets its contract: what the array holds fits 32 bits, so it is the same number at 64.
 -- Assumes nothing.
 use mathlib.Core.Path.{◌≡◌, refl}
-use borrow.Author.Rules.{rules}
 use lib.IntN.{ℤ, pos}
 use lib.ListN.{get_or}
 use mir.Syntax.{w32, w64}
