@@ -42,32 +42,27 @@ loop-k-init c =
     let l = part_length a.s.now a.at a.width c.requires.1 in
     (omega arith, none_left (part a.s.now a.at a.width) a.width (omega (arith, l)))
 
--- the bytes of the slice, and the number so far, in a turn
-all-bytes : (c : (lts.At-loop tie.the-claims reads.Pre reads.Post goal.the-invariant-loop-k goal.the-decreases-loop-k)) → Bytes c.args.s.now
-all-bytes c i = omega (arith, c.shared_slice_known-1.given i)
-
-turn_small : (c : goal.In-loop-k) → c.loop-k.n < 2 ^ 56
-turn_small c =
-    let s = c.before.before.before in
-    let a = s.args in
+-- the number so far, in a turn
+turn_small : (c : lts.In-loop tie.the-claims reads.Pre reads.Post goal.the-invariant-loop-k goal.the-decreases-loop-k)
+    → Bytes c.args.s.now → c.loop-k.n < 2 ^ 56
+turn_small c b =
+    let a = c.args in
     let l = c.loop-k in
-    small a.s.now a.at a.width l.k l.n (all-bytes c.before) s.requires.0 s.requires.1
-    c.loop-k-test.true l.invariant.1
+    small a.s.now a.at a.width l.k l.n b c.requires.0 c.requires.1 c.loop-k-test.true l.invariant.1
 
 pub overflow_mul-n : goal.overflow_mul-n
-overflow_mul-n c = omega (arith, turn_small c)
+overflow_mul-n c = omega (arith, turn_small c.before (λ i. omega (arith, c.type_inv.s i)))
 
 pub overflow_add-n : goal.overflow_add-n
-overflow_add-n c = omega (arith, turn_small c.before.before, c.wide.ensures.1)
+overflow_add-n c = omega (arith, turn_small c.before.before.before (λ i. omega (arith, c.type_inv.s i)), c.wide.ensures.1)
 
 pub loop-k-preserved : goal.loop-k-preserved
 loop-k-preserved c =
     let l = c.loop-k in
-    let s = c.before.before.before.before.before in
-    let a = s.args in
+    let a = c.args in
     let xs = part a.s.now a.at a.width in
     let b = part_at a.s.now a.at a.width (l.k - 1) (omega arith) in
-    let n = part_length a.s.now a.at a.width s.requires.1 in
+    let n = part_length a.s.now a.at a.width c.requires.1 in
     let more = one_more xs l.k l.n (omega arith) (omega (arith, n)) l.invariant.1 in
     (omega arith, rw (c.wide.ensures.0, ← b) more)
 
@@ -76,6 +71,6 @@ returns c =
     let a = c.args in
     let z : c.loop-k.k ≡ 0 = omega arith in
     let e = rw z at c.loop-k.invariant.1 in
-    let b = dropped-bytes a.at a.s.now (all-bytes c.before) in
+    let b = dropped-bytes a.at a.s.now (λ i. omega (arith, c.type_inv.s i)) in
     let u = taken-under a.width (drop a.at a.s.now) b in
     (e, rw e u)

@@ -16,7 +16,7 @@ use Rattle.octets.proofs.Laws.{none_left, one_more}
 use Rattle.octets.proofs.get.Given as goal
 
 abbrev pub invariant-loop-k : goal.invariant-loop-k
-invariant-loop-k l = (l.k ≤ l.width) × (l.n ≡ number (drop l.k (part l.s l.at l.width)))
+invariant-loop-k l = (l.k ≤ l.width) × (l.n ≡ number (drop l.k (take l.width (drop l.at l.s))))
 
 abbrev pub decreases-loop-k : goal.decreases-loop-k
 decreases-loop-k l = l.k
