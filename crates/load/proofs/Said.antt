@@ -27,16 +27,11 @@ says_no f = record { yes = λ e. let z : ◌≡◌ {A = ℕ} 0 1 = cc in absurd 
 pub says_yes : {P : Type 0} → P → Says true P
 says_yes p = record { yes = λ e. p; no = λ q. refl }
 
-apart : false ≡ true → ◌≡◌ {A = ℕ} 0 1
-apart e = cc
+pub granted : {r : Bool} {P : Type 0} → Says r P → r ≡ true → P
+granted s e = s.yes e
 
-pub granted : {r : Bool} {P : Type 0} → Says r P → not r ≡ false → P
-granted {r = true} s e = s.yes refl
-granted {r = false} s e = let z = apart (sym e) in absurd (omega arith)
-
-pub refuted : {r : Bool} {P : Type 0} → Says r P → not r ≡ true → P → ⊥
-refuted {r = true} s e p = let z = apart e in omega arith
-refuted {r = false} s e p = let z = apart (s.no p) in omega arith
+pub refuted : {r : Bool} {P : Type 0} → Says r P → r ≡ false → P → ⊥
+refuted s e p = let z : ◌≡◌ {A = Bool} true false = sym (s.no p) ∙ e in cc
 
 -- ---- magnitudes
 pub low : (w : ℕ) → w < 2147483648 → w ≡ nat_abs (value w)

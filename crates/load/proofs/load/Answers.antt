@@ -17,53 +17,37 @@ use Rattle.load.proofs.load.Goals as goal
 -- src/lib.rt:102:9
 pub returns-then-code-ne0 : goal.returns-then-code-ne0
 returns-then-code-ne0 c =
-    let o = c.before.before in
-    let t = o.before.before in
-    let s = t.args.s.now in
+    let s = c.args.s.now in
     record {
-      number = t.tested-code.ensures;
-      state = nothing-loaded s t.tested-code.result (state_of o.«open».result.voice.head o.«open».result.voice.line) t.tested-code.ensures o.if-code-ne0.true o.«open».ensures.state;
-      valid = o.«open».ensures.valid;
+      number = c.tested-code.ensures;
+      state = nothing-loaded s c.tested-code.result (state_of c.«open».result.voice.head c.«open».result.voice.line) c.tested-code.ensures c.if-code-ne0.true c.«open».ensures.state;
+      valid = c.«open».ensures.valid;
     }
 
 -- src/lib.rt:109:5
 pub lay-requires : goal.lay-requires
 lay-requires c =
-    let p = c.before in
-    let m = p.before in
-    let e = m.before in
-    let t = e.before in
-    let s = t.args.s.now in
-    let h = passed s m.map_of-m.result m.map_of-m.ensures.0 p.places-p.result p.places-p.ensures
-    (sym e.if-code-ne0.false ∙ t.tested-code.ensures) in
-    line-room s m.map_of-m.result m.map_of-m.ensures.0 p.places-p.result p.places-p.ensures h.0
+    let s = c.args.s.now in
+    let h = passed s c.map_of-m.result c.map_of-m.ensures.0 c.places-p.result c.places-p.ensures
+    (sym c.if-code-ne0.false ∙ c.tested-code.ensures) in
+    line-room s c.map_of-m.result c.map_of-m.ensures.0 c.places-p.result c.places-p.ensures h.0
 
 -- src/lib.rt:110:9
 pub head_of-h-requires : goal.head_of-h-requires
 head_of-h-requires c =
-    let p = c.before.before.before in
-    let m = p.before in
-    let e = m.before in
-    let t = e.before in
-    let s = t.args.s.now in
-    let h = passed s m.map_of-m.result m.map_of-m.ensures.0 p.places-p.result p.places-p.ensures
-    (sym e.if-code-ne0.false ∙ t.tested-code.ensures) in
+    let s = c.args.s.now in
+    let h = passed s c.map_of-m.result c.map_of-m.ensures.0 c.places-p.result c.places-p.ensures
+    (sym c.if-code-ne0.false ∙ c.tested-code.ensures) in
     head-limits c.words_of.result (held_in s) c.words_of.ensures h.1
 
 -- src/lib.rt:93:1
 pub returns : goal.returns
 returns c =
-    let w = c.before in
-    let l = w.before in
-    let p = l.before.before in
-    let m = p.before in
-    let e = m.before in
-    let t = e.before in
-    let s = t.args.s.now in
-    let z = sym e.if-code-ne0.false ∙ t.tested-code.ensures in
-    let h = passed s m.map_of-m.result m.map_of-m.ensures.0 p.places-p.result p.places-p.ensures z in
-    voice-loaded s w.words_of.result c.head_of-h.result l.lay.new.1.1.1.0 z c.head_of-h.ensures
-    w.words_of.ensures h.1
-    (laid-all s l.lay.new.1.1.1.0 l.lay.ensures.0
-    (λ k n. l.lay.ensures.1 k n
-    ∙ sym (line_at s m.map_of-m.result m.map_of-m.ensures.0 p.places-p.result p.places-p.ensures k n)))
+    let s = c.args.s.now in
+    let z = sym c.if-code-ne0.false ∙ c.tested-code.ensures in
+    let h = passed s c.map_of-m.result c.map_of-m.ensures.0 c.places-p.result c.places-p.ensures z in
+    voice-loaded s c.words_of.result c.head_of-h.result c.lay.new.line z c.head_of-h.ensures
+    c.words_of.ensures h.1
+    (laid-all s c.lay.new.line c.lay.ensures.0
+    (λ k n. c.lay.ensures.1 k n
+    ∙ sym (line_at s c.map_of-m.result c.map_of-m.ensures.0 c.places-p.result c.places-p.ensures k n)))

@@ -14,11 +14,10 @@ use Rattle.load.proofs.panel.Goals as goal
 -- src/lib.rt:123:9
 pub returns-then-code-ne0 : goal.returns-then-code-ne0
 returns-then-code-ne0 c =
-    let t = c.before in
-    let s = t.args.s.now in
-    let e = shows.nothing s (λ z. c.if-code-ne0.true (t.tested-code.ensures ∙ z)) in
+    let s = c.args.s.now in
+    let e = shows.nothing s (λ z. c.if-code-ne0.true (c.tested-code.ensures ∙ z)) in
     record {
-      number = t.tested-code.ensures ∙ sym (panel-number s);
+      number = c.tested-code.ensures ∙ sym (panel-number s);
       L = sym (ap (λ (p : Panel). p.L) e);
       d = sym (ap (λ (p : Panel). p.d) e);
       G = sym (ap (λ (p : Panel). p.G) e);
@@ -27,11 +26,9 @@ returns-then-code-ne0 c =
 -- src/lib.rt:118:1
 pub returns : goal.returns
 returns c =
-    let o = c.before.before in
-    let t = o.before in
-    let s = t.args.s.now in
+    let s = c.args.s.now in
     let n = c.words_of-w.ensures in
-    let z = sym o.if-code-ne0.false ∙ t.tested-code.ensures in
+    let z = sym c.if-code-ne0.false ∙ c.tested-code.ensures in
     let e = panel-shows s z in
     record {
       number = z ∙ sym (panel-number s);

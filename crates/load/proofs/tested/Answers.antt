@@ -14,52 +14,35 @@ use Rattle.load.proofs.tested.Goals as goal
 -- src/lib.rt:45:9
 pub returns-then-s-end : goal.returns-then-s-end
 returns-then-s-end c =
-    let p = c.before in
-    let m = p.before in
-    by_22 m.args.s.now m.map_of-m.result m.map_of-m.ensures.0 p.places-p.result
-    p.places-p.ensures c.if-s-end.true
+    by_22 c.args.s.now c.map_of-m.result c.map_of-m.ensures.0 c.places-p.result
+    c.places-p.ensures c.if-s-end.true
 
 -- src/lib.rt:48:9
 pub returns-then-not-head_in : goal.returns-then-not-head_in
 returns-then-not-head_in c =
-    let w = c.before.before in
-    let e = w.before in
-    let p = e.before in
-    let m = p.before in
-    let s = m.args.s.now in
-    by_23 s m.map_of-m.result m.map_of-m.ensures.0 p.places-p.result p.places-p.ensures e.if-s-end.false
-    (λ i. refuted c.head_in.ensures c.if-not-head_in.true (head-limits w.words_of.result (held_in s) w.words_of.ensures i))
+    let s = c.args.s.now in
+    by_23 s c.map_of-m.result c.map_of-m.ensures.0 c.places-p.result c.places-p.ensures c.if-s-end.false
+    (λ i. refuted c.head_in.ensures c.if-not-head_in.true (head-limits c.words_of.result (held_in s) c.words_of.ensures i))
 
 -- src/lib.rt:50:9
 pub line_in-requires : goal.line_in-requires
 line_in-requires c =
-    let e = c.before.before.before in
-    let p = e.before in
-    let m = p.before in
-    line-room m.args.s.now m.map_of-m.result m.map_of-m.ensures.0 p.places-p.result
-    p.places-p.ensures e.if-s-end.false
+    line-room c.args.s.now c.map_of-m.result c.map_of-m.ensures.0 c.places-p.result
+    c.places-p.ensures c.if-s-end.false
 
 -- src/lib.rt:51:9
 pub returns-then-not-line_in : goal.returns-then-not-line_in
 returns-then-not-line_in c =
-    let e = c.before.before.before.before.before in
-    let p = e.before in
-    let m = p.before in
-    let s = m.args.s.now in
-    by_23 s m.map_of-m.result m.map_of-m.ensures.0 p.places-p.result p.places-p.ensures e.if-s-end.false
+    let s = c.args.s.now in
+    by_23 s c.map_of-m.result c.map_of-m.ensures.0 c.places-p.result c.places-p.ensures c.if-s-end.false
     (λ i. refuted c.line_in.ensures c.if-not-line_in.true
-    (line-limits s m.map_of-m.result m.map_of-m.ensures.0 p.places-p.result p.places-p.ensures i.line))
+    (line-limits s c.map_of-m.result c.map_of-m.ensures.0 c.places-p.result c.places-p.ensures i.line))
 
 -- src/lib.rt:38:1
 pub returns : goal.returns
 returns c =
-    let h = c.before.before in
-    let w = h.before.before in
-    let e = w.before in
-    let p = e.before in
-    let m = p.before in
-    let s = m.args.s.now in
-    let line = limits-line s m.map_of-m.result m.map_of-m.ensures.0 p.places-p.result p.places-p.ensures
+    let s = c.args.s.now in
+    let line = limits-line s c.map_of-m.result c.map_of-m.ensures.0 c.places-p.result c.places-p.ensures
     (granted c.line_in.ensures c.if-not-line_in.false) in
-    by_0 s m.map_of-m.result m.map_of-m.ensures.0 p.places-p.result p.places-p.ensures e.if-s-end.false
-    (limits-head w.words_of.result (held_in s) w.words_of.ensures (granted h.head_in.ensures h.if-not-head_in.false) line)
+    by_0 s c.map_of-m.result c.map_of-m.ensures.0 c.places-p.result c.places-p.ensures c.if-s-end.false
+    (limits-head c.words_of.result (held_in s) c.words_of.ensures (granted c.head_in.ensures c.if-not-head_in.false) line)

@@ -9,12 +9,8 @@ use Rattle.store.proofs.coming_of.Goals as goal
 
 -- src/lib.rt:298:39
 pub prepared-requires : goal.prepared-requires
-prepared-requires c = subst (λ (w : Waiting). Quiet w) c.x-1.given.1 c.requires
-
--- src/lib.rt:283:1
-pub returns-in-Idle : goal.returns-in-Idle
-returns-in-Idle c = rw c.enum_told-1.given.1
+prepared-requires c = subst (λ (w : Waiting). Quiet w) c.in-Prepared.is c.requires
 
 -- src/lib.rt:283:1
 pub returns-in-Prepared : goal.returns-in-Prepared
-returns-in-Prepared c = rw c.x-1.given.1 c.prepared.ensures
+returns-in-Prepared c = rw c.in-Prepared.is c.prepared.ensures

@@ -13,23 +13,23 @@ use Rattle.store.proofs.one.Goals as goal
 -- src/lib.rt:31:9
 pub put-requires : goal.put-requires
 put-requires c =
-    let s = c.before.before.before in
-    omega (arith, given-all s.args.on (s.args.a ∷ []) c.if-on.true, s.requires)
+    let s = c.args in
+    omega (arith, given-all s.on (s.a ∷ []) c.if-on.true, c.requires)
 
 -- src/lib.rt:32:16
 pub overflow_add-result : goal.overflow_add-result
 overflow_add-result c =
-    let s = c.before.before.before.before.before.before in
-    omega (arith, given-all s.args.on (s.args.a ∷ []) c.if-on.true, s.requires)
+    let s = c.args in
+    omega (arith, given-all s.on (s.a ∷ []) c.if-on.true, c.requires)
 
 -- src/lib.rt:32:9
 pub returns-then-on : goal.returns-then-on
 returns-then-on c =
-    let s = c.before.before.before.before.before.before in
-    let a = s.args.a in
-    all-put s.args.out.now c.put.new.0 s.args.at s.args.on (a ∷ []) (s.args.at + 4)
+    let s = c.args in
+    let a = s.a in
+    all-put s.out.now c.put.new.out s.at s.on (a ∷ []) (s.at + 4)
     c.if-on.true
-    (c.put.ensures ∙ ap (λ (l : List ℕ). laid s.args.out.now s.args.at l) (sym (encoded-one a)))
+    (c.put.ensures ∙ ap (λ (l : List ℕ). laid s.out.now s.at l) (sym (encoded-one a)))
     (omega arith)
 
 -- src/lib.rt:26:1

@@ -17,9 +17,8 @@ set-k-requires c =
 -- src/build.rt:43:1
 pub returns : goal.returns
 returns c =
-    let s = c.before.before in
-    let a = s.args in
+    let a = c.args in
     let t = tuning a.order a.length a.delay in
     let h = filter-tuned (record { tuning = record { order = a.order; length = a.length; delay = a.delay }; coefficients = c.set-k.result; state = three_of a.a a.b a.c })
-    t refl c.set-k.ensures s.requires in
+    t refl c.set-k.ensures c.requires in
     rw c.state_of-s.ensures h

@@ -14,28 +14,24 @@ use Rattle.load.proofs.build.head_of.Goals as goal
 -- src/build.rt:95:1
 pub returns : goal.returns
 returns c =
-    let y = c.before in
-    let x = y.before in
-    let f = x.before.before in
-    let s = f.before in
-    let h = s.requires in
+    let h = c.requires in
     let head : Head = record {
-      filter = f.filter_of-filter.result;
-      loss = s.args.w.loss;
-      advance = s.args.w.advance;
-      last = y.value_of_lem.result;
-      waiting = x.waiting_of-waiting.result;
+      filter = c.filter_of-filter.result;
+      loss = c.args.w.loss;
+      advance = c.args.w.advance;
+      last = c.value_of_lem.result;
+      waiting = c.waiting_of-waiting.result;
       pluck = c.pluck_of-pluck.result;
       at = 0;
     } in
     record {
-      voice = λ l. voice-is s.args.w head l f.filter_of-filter.ensures refl refl y.value_of_lem.ensures x.waiting_of-waiting.ensures.0 c.pluck_of-pluck.ensures.0;
+      voice = λ l. voice-is c.args.w head l c.filter_of-filter.ensures refl refl c.value_of_lem.ensures c.waiting_of-waiting.ensures.0 c.pluck_of-pluck.ensures.0;
       fit = record {
-        filter = f.filter_of-filter.ensures.tuned;
+        filter = c.filter_of-filter.ensures.tuned;
         loss = h.loss;
         advance = h.advance;
-        last = rw y.value_of_lem.ensures h.last;
-        waiting = x.waiting_of-waiting.ensures.1;
+        last = rw c.value_of_lem.ensures h.last;
+        waiting = c.waiting_of-waiting.ensures.1;
         pluck = c.pluck_of-pluck.ensures.1;
         at = omega arith;
       };

@@ -9,11 +9,8 @@ use Rattle.load.proofs.build.state_of.Goals as goal
 -- src/build.rt:30:1
 pub returns : goal.returns
 returns c =
-    let z = c.before.before.before in
-    let y = z.before in
-    let x = y.before in
     rw (
-      read w64 x.value_of_lem.result.n c.struct_told-1.given.0.1 x.value_of_lem.ensures,
-      read w64 y.value_of-y.result.n c.struct_told-2-1.given.0.1 y.value_of-y.ensures,
-      read w64 z.value_of-z.result.n c.struct_told-3-1.given.0.1 z.value_of-z.ensures,
+      read w64 c.value_of_lem.result.n c.struct_told-1.given.0.1 c.value_of_lem.ensures,
+      read w64 c.value_of-y.result.n c.struct_told-2-1.given.0.1 c.value_of-y.ensures,
+      read w64 c.value_of-z.result.n c.struct_told-3-1.given.0.1 c.value_of-z.ensures,
     )

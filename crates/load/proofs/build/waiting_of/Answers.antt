@@ -8,5 +8,4 @@ use Rattle.load.proofs.build.waiting_of.Goals as goal
 -- src/build.rt:80:5
 pub prepared-requires : goal.prepared-requires
 prepared-requires c =
-    let s = c.before.before in
-    comes s.args.advance s.args.c c.if-c-eq0.false s.requires
+    comes c.args.advance c.args.c c.if-c-eq0.false c.requires

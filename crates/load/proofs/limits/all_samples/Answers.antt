@@ -25,15 +25,14 @@ four-requires c = omega (arith, c.requires, c.loop-i-test.true)
 -- src/limits.rt:157:5
 pub loop-i-preserved : goal.loop-i-preserved
 loop-i-preserved c =
-    let g = c.before in
-    let i = g.loop-i.i in
-    let l = g.loop-i in
-    let s = g.args in
-    let w = g.four in
-    let e = g.magnitude.ensures ∙ ap nat_abs (word_read s.s.now (s.at + 4 * i) w.result w.ensures.0) in
+    let i = c.loop-i.i in
+    let l = c.loop-i in
+    let s = c.args in
+    let w = c.four in
+    let e = c.magnitude.ensures ∙ ap nat_abs (word_read s.s.now (s.at + 4 * i) w.result w.ensures.0) in
     ⊎_elim
-    (λ j. (omega arith, rw j.1 (too_loud s.s.now s.at i g.magnitude.result e j.0.true)))
-    (λ j. (omega arith, rw j.1 (one_more s.s.now s.at i g.magnitude.result l.good e j.0.left l.invariant.1)))
+    (λ j. (omega arith, rw j.1 (too_loud s.s.now s.at i c.magnitude.result e j.0.true)))
+    (λ j. (omega arith, rw j.1 (one_more s.s.now s.at i c.magnitude.result l.good e j.0.left l.invariant.1)))
     c.if-magnitude-gt8388607.branch
 
 -- src/limits.rt:151:1

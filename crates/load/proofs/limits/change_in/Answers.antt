@@ -23,7 +23,6 @@ returns-then-not-taken_in c =
 -- src/limits.rt:95:1
 pub returns : goal.returns
 returns c =
-    let e = c.before.before.before in
-    let s = e.args in
-    by_filter s.advance s.c c.filter_in_lem.result e.if-c-eq0.false
+    let s = c.args in
+    by_filter s.advance s.c c.filter_in_lem.result c.if-c-eq0.false
     (granted c.taken_in.ensures c.if-not-taken_in.false) c.filter_in_lem.ensures

@@ -37,13 +37,10 @@ returns-then-z-gt16777214 c =
 -- src/limits.rt:44:1
 pub returns : goal.returns
 returns c =
-    let z = c.before.before in
-    let y = z.before.before in
-    let x = y.before.before in
-    let s = x.args in
+    let s = c.args in
     all_said (tuning s.order s.length s.delay) (three_of s.a s.b s.c) c.past.result
-    (sym x.untuned.ensures ∙ x.if-untuned-ne0.false)
-    (omega (arith, x.magnitude-x.ensures, y.if-x-gt16777214.false))
-    (omega (arith, y.magnitude-y.ensures, z.if-y-gt16777214.false))
-    (omega (arith, z.magnitude-z.ensures, c.if-z-gt16777214.false))
-    (rw (← y.magnitude-y.ensures, ← z.magnitude-z.ensures) c.past.ensures)
+    (sym c.untuned.ensures ∙ c.if-untuned-ne0.false)
+    (omega (arith, c.magnitude-x.ensures, c.if-x-gt16777214.false))
+    (omega (arith, c.magnitude-y.ensures, c.if-y-gt16777214.false))
+    (omega (arith, c.magnitude-z.ensures, c.if-z-gt16777214.false))
+    (rw (← c.magnitude-y.ensures, ← c.magnitude-z.ensures) c.past.ensures)

@@ -34,20 +34,15 @@ returns-then-not-pluck_in c = says_no (λ h. refuted c.pluck_in.ensures c.if-not
 -- src/limits.rt:127:1
 pub returns : goal.returns
 returns c =
-    let e5 = c.before.before in
-    let e4 = e5.before.before in
-    let e3 = e4.before.before in
-    let e2 = e3.before.before in
-    let e1 = e2.before.before in
     let s = c.change_in.ensures in
     record {
       yes = λ t. record {
-        filter = granted e1.filter_in_lem.ensures e1.if-not-filter_in.false;
-        loss = e2.if-w-gt65535.false;
-        advance = e3.if-w-gt64.false;
-        last = omega (arith, e4.magnitude.ensures, e4.if-magnitude-gt8388607.false);
+        filter = granted c.filter_in_lem.ensures c.if-not-filter_in.false;
+        loss = c.if-w-gt65535.false;
+        advance = c.if-w-gt64.false;
+        last = omega (arith, c.magnitude.ensures, c.if-magnitude-gt8388607.false);
         change = s.yes t;
-        pluck = granted e5.pluck_in.ensures e5.if-not-pluck_in.false;
+        pluck = granted c.pluck_in.ensures c.if-not-pluck_in.false;
       };
       no = λ h. s.no h.change;
     }

@@ -14,13 +14,12 @@ read_three-v-requires c = omega (arith, c.requires)
 -- src/words.rt:107:1
 pub returns : goal.returns
 returns c =
-    let a = c.before.before.before in
-    let s = a.args in
+    let s = c.args in
     let t = c.read_three-t in
     let v = c.read_three-v in
     change-read s.s.now s.at s.there
     (record {
-      kind = a.read-kind.result;
+      kind = c.read-kind.result;
       order = t.result.a;
       length = t.result.b;
       delay = t.result.c;
@@ -29,4 +28,4 @@ returns c =
       v2 = v.result.b;
       v3 = v.result.c;
     })
-    a.read-kind.ensures t.ensures c.read-taken.ensures v.ensures
+    c.read-kind.ensures t.ensures c.read-taken.ensures v.ensures

@@ -24,29 +24,21 @@ read_three-k-requires c = omega (arith, c.places-p.ensures.pluck)
 -- src/words.rt:128:1
 pub returns : goal.returns
 returns c =
-    let h = c.before in
-    let v = h.before in
-    let y = v.before in
-    let n = y.before in
-    let g = n.before in
-    let t = g.before in
-    let p = t.before in
-    let s = p.before.before in
-    held s.args.s.now s.args.m s.requires p.places-p.result p.places-p.ensures
+    held c.args.s.now c.args.m c.requires c.places-p.result c.places-p.ensures
     (record {
-      order = t.read_three-t.result.a;
-      length = t.read_three-t.result.b;
-      delay = t.read_three-t.result.c;
-      loss = g.read-loss.result;
-      advance = n.read-advance.result;
-      last = y.read-last.result;
-      v1 = v.read_three-v.result.a;
-      v2 = v.read_three-v.result.b;
-      v3 = v.read_three-v.result.c;
-      change = h.change_of-change.result;
+      order = c.read_three-t.result.a;
+      length = c.read_three-t.result.b;
+      delay = c.read_three-t.result.c;
+      loss = c.read-loss.result;
+      advance = c.read-advance.result;
+      last = c.read-last.result;
+      v1 = c.read_three-v.result.a;
+      v2 = c.read_three-v.result.b;
+      v3 = c.read_three-v.result.c;
+      change = c.change_of-change.result;
       amplitude = c.read_three-k.result.a;
       left = c.read_three-k.result.b;
       noise = c.read_three-k.result.c;
     })
-    t.read_three-t.ensures g.read-loss.ensures n.read-advance.ensures y.read-last.ensures v.read_three-v.ensures
-    h.change_of-change.ensures c.read_three-k.ensures
+    c.read_three-t.ensures c.read-loss.ensures c.read-advance.ensures c.read-last.ensures c.read_three-v.ensures
+    c.change_of-change.ensures c.read_three-k.ensures

@@ -2,7 +2,6 @@
 use mathlib.Core.Path.{refl, sym, ◌∙◌}
 use mathlib.Core.Bool.{true≢false}
 use native.Mathlib.Omega.{arith}
-use borrow.Author.Tests.{not-true, not-false}
 use Rattle.packed.specs.Words.{head_of}
 use borrow.Author.Rules.{rules}
 use Rattle.packed.proofs.fits.fits.Goals as goal
@@ -11,14 +10,14 @@ pub returns-then-not-filter_fits : goal.returns-then-not-filter_fits
 unfolding head_of
 returns-then-not-filter_fits c = (
   (λ e. absurd (true≢false (sym e))),
-  (λ f. absurd (true≢false (sym (c.filter_fits.ensures.1 f.filter) ∙ not-true _ c.if-not-filter_fits.true))),
+  (λ f. absurd (true≢false (sym (c.filter_fits.ensures.1 f.filter) ∙ c.if-not-filter_fits.true))),
 )
 
 pub returns-then-not-waiting_fits : goal.returns-then-not-waiting_fits
 unfolding head_of
 returns-then-not-waiting_fits c = (
   (λ e. absurd (true≢false (sym e))),
-  (λ f. absurd (true≢false (sym (c.waiting_fits.ensures.1 f.waiting) ∙ not-true _ c.if-not-waiting_fits.true))),
+  (λ f. absurd (true≢false (sym (c.waiting_fits.ensures.1 f.waiting) ∙ c.if-not-waiting_fits.true))),
 )
 
 pub returns : goal.returns
@@ -51,11 +50,11 @@ returns c =
           let i = n.0 d.0 in
           let j = l.0 i.0 in
           record {
-            filter = filter.filter_fits.ensures.0 (not-false _ e1.if-not-filter_fits.false);
+            filter = filter.filter_fits.ensures.0 e1.if-not-filter_fits.false;
             loss = j.1.most;
             advance = i.1.most;
             last = d.1;
-            waiting = wait.waiting_fits.ensures.0 (not-false _ e2.if-not-waiting_fits.false);
+            waiting = wait.waiting_fits.ensures.0 e2.if-not-waiting_fits.false;
             pluck = a.1;
             at = omega (arith, b.1.most);
           }),

@@ -1,7 +1,6 @@
 -- `packed::fits::waiting_fits` meets its contract: by the kind.
 use mathlib.Core.Path.{◌≡◌, refl, sym, ◌∙◌}
 use mathlib.Core.Bool.{true≢false}
-use borrow.Author.Tests.{not-true, not-false}
 use lib.ListN.{get_or}
 use Rattle.packed.specs.Words.{filter_from}
 use Rattle.packed.proofs.Tests.{idle-is, waiting-is}
@@ -30,7 +29,7 @@ returns-then-not-counted c =
       (λ e. absurd (true≢false (sym e))),
       (λ v.
           let p = (waiting-is (get_or ws 12 0) (filter_from ws 13) (get_or ws 22 0) (get_or ws 10 0) some).0 v in
-          absurd (true≢false (sym (r.1 p.0) ∙ not-true _ c.if-not-counted.true))),
+          absurd (true≢false (sym (r.1 p.0) ∙ c.if-not-counted.true))),
     )
 
 pub returns : goal.returns
@@ -44,6 +43,6 @@ returns c =
     let some : (get_or ws 12 0 ≡ 0 → ⊥) = λ z. l.if-kind-eq0.false (w.word-kind.ensures ∙ z) in
     let r = rw (w.word-kind.ensures, n.word.ensures, a.word-2.ensures) at t.counted.ensures in
     let k = waiting-is (get_or ws 12 0) (filter_from ws 13) (get_or ws 22 0) (get_or ws 10 0) some in (
-      (λ e. k.1 (r.0 (not-false _ c.if-not-counted.false), c.filter_fits.ensures.0 e)),
+      (λ e. k.1 (r.0 c.if-not-counted.false, c.filter_fits.ensures.0 e)),
       (λ v. c.filter_fits.ensures.1 (k.0 v).1),
     )

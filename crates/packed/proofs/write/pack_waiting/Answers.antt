@@ -9,14 +9,10 @@ use Rattle.packed.proofs.write.pack_waiting.Goals as goal
 
 pub pack_filter-x-requires : goal.pack_filter-x-requires
 pack_filter-x-requires c =
-    let s = c.before.before.before in
-    (subst (λ (w : Waiting). Waiting-valid s.args.advance w) c.w-1.given.1 s.requires).tuned
+    (subst (λ (w : Waiting). Waiting-valid c.args.advance w) c.in-Prepared.is c.requires).tuned
 
 pub returns-in-Prepared : goal.returns-in-Prepared
 returns-in-Prepared c =
-    let w = c.w-1.given in
-    let k = w.0.0 in
-    let e = w.0.1.0 in
-    let n = w.0.1.1.0 in
+    let w = c.in-Prepared in
     let f = c.pack_filter-x in
-    rw w.1 (waits k c.kind_word.result n (filter_in f.result) e c.kind_word.ensures f.ensures)
+    rw w.is (waits w.k c.kind_word.result w.n (filter_in f.result) w.e c.kind_word.ensures f.ensures)
