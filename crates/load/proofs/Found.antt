@@ -1,5 +1,5 @@
 -- Where the numbers of a stored form stand, as the code looks for them.
-use mathlib.Core.Path.{◌≡◌, refl, sym, ap, ◌∙◌}
+use mathlib.Core.Path.{◌≡◌, refl, sym, ap, subst, ◌∙◌}
 use mathlib.Core.Bool.{Bool, true, false, cond}
 use mathlib.Core.List.{List, [], ◌∷◌}
 use Prim.Native.Nat.{ℕ, zero, suc, ◌+◌, ◌*◌, ◌/◌, ◌%◌, ◌^◌, ◌≤◌, ◌<◌}
@@ -124,7 +124,7 @@ module _ (s : List ℕ) (m : ℕ) (map : m ≡ get_or s 0 0) (p : Offsets) (at :
   in_part : (j n k at there : ℕ) {x : ℕ} → n ≡ 1 + ahead sizes m j → there ≡ m / 2 ^ j % 2 → at ≡ n + 4 * k
       → x ≡ read s at there 0 → x ≡ found s j k 0
   in_part j n k at there e b i h =
-      let q : n ≡ 1 + ahead sizes (get_or s 0 0) j = rw (← map) e in
+      let q = subst (λ (x : ℕ). n ≡ 1 + ahead sizes x j) map e in
       at-found s j k at there 0 (omega arith) (b ∙ bit j) h
 
   in_state : (k at : ℕ) {x : ℕ} → at ≡ p.state + 4 * k → x ≡ read s at (m / 16 % 2) 0 → x ≡ found s 4 k 0

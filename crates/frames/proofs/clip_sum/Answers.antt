@@ -10,18 +10,15 @@ use Rattle.frames.proofs.clip_sum.Goals as goal
 
 small : (c : goal.After-plus) → nat_abs c.plus.result.n ≤ 2 ^ 42
 small c =
-    let s = c.before in
-    let a = s.args.a.n in
-    let b = s.args.b.n in
+    let a = c.args.a.n in
+    let b = c.args.b.n in
     rw c.plus.ensures
-    (near (a +ℤ b) (omega (arith, +v a b, absv a, absv b, s.requires.0, s.requires.1)))
+    (near (a +ℤ b) (omega (arith, +v a b, absv a, absv b, c.requires.0, c.requires.1)))
 
 pub plus-requires-2 : goal.plus-requires-2
 plus-requires-2 c = (small c, omega (arith, c.requires.2))
 
 pub returns : goal.returns
 returns c =
-    let q = c.before in
-    let p = q.before in
     c.clip.ensures
-    ∙ ap clip (q.plus-2.ensures ∙ ap (λ (z : ℤ). z +ℤ p.args.c.n) p.plus.ensures)
+    ∙ ap clip (c.plus-2.ensures ∙ ap (λ (z : ℤ). z +ℤ c.args.c.n) c.plus.ensures)

@@ -43,8 +43,7 @@ module _ (c : goal.After-struct_told-1) where
 
 pub sides-requires : goal.sides-requires
 sides-requires c =
-    let s = c.before.before.before.before.before.before in
-    rw (read-x c) (s.requires, enters-small s.args.x)
+    rw (read-x c) (c.requires, enters-small c.args.x)
 
 pub returns : goal.returns
 returns c =

@@ -4,19 +4,14 @@ use Rattle.frames.proofs.row_sample.Goals as goal
 
 pub step-t-requires : goal.step-t-requires
 step-t-requires c =
-    let u = c.before in
-    let s = u.before.before in
-    rw u.unpack-h.ensures s.requires
+    rw c.unpack-h.ensures c.requires
 
 pub returns : goal.returns
 returns c =
-    let p = c.before in
-    let t = p.before.before in
-    let u = t.before.before in
-    let f = t.step-t.ensures in
+    let f = c.step-t.ensures in
     record {
-      value = rw (← u.unpack-h.ensures) f.y;
+      value = rw (← c.unpack-h.ensures) f.y;
       small = f.small;
-      state = rw (← u.unpack-h.ensures, p.pack-w.ensures) f.state;
-      valid = rw p.pack-w.ensures f.valid;
+      state = rw (← c.unpack-h.ensures, c.pack-w.ensures) f.state;
+      valid = rw c.pack-w.ensures f.valid;
     }

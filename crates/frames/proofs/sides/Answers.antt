@@ -19,13 +19,11 @@ use Rattle.frames.proofs.sides.Reads as reads
 use Rattle.frames.proofs.sides.Tie as tie
 
 pub side-a-requires : goal.side-a-requires
-side-a-requires c = let s = c.before.before in (s.requires.0, omega arith, s.requires.1)
+side-a-requires c = (c.requires.0, omega arith, c.requires.1)
 
 pub side-b-requires : goal.side-b-requires
 side-b-requires c =
-    let a = c.before.before in
-    let s = a.before.before.before in
-    (a.side-a.ensures.voices, omega arith, s.requires.1)
+    (c.side-a.ensures.voices, omega arith, c.requires.1)
 
 -- ---- the two sides, and that they are samples
 module _ (c : (lts.After-side2 tie.the-claims reads.Pre reads.Post)) where

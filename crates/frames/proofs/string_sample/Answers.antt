@@ -5,11 +5,9 @@ use Rattle.frames.proofs.string_sample.Goals as goal
 
 pub row_sample-requires : goal.row_sample-requires
 row_sample-requires c =
-    let s = c.before.before in
-    (s.requires.0.valid s.args.k s.requires.1, s.requires.2)
+    (c.requires.0.valid c.args.k c.requires.1, c.requires.2)
 
 pub returns : goal.returns
 returns c =
-    let s = c.before.before.before in
-    one-string s.args.heads.now s.args.lines.now s.args.k s.args.x.n _ _ s.requires.0 s.requires.1
+    one-string c.args.heads.now c.args.lines.now c.args.k c.args.x.n _ _ c.requires.0 c.requires.1
     c.row_sample.ensures

@@ -20,8 +20,8 @@ returns-then-code-ne0 c =
     let s = c.args.s.now in
     record {
       number = c.tested-code.ensures;
-      state = nothing-loaded s c.tested-code.result (state_of c.«open».result.voice.head c.«open».result.voice.line) c.tested-code.ensures c.if-code-ne0.true c.«open».ensures.state;
-      valid = c.«open».ensures.valid;
+      state = nothing-loaded s c.tested-code.result (state_of c.open-o.result.voice.head c.open-o.result.voice.line) c.tested-code.ensures c.if-code-ne0.true c.open-o.ensures.state;
+      valid = c.open-o.ensures.valid;
     }
 
 -- src/lib.rt:109:5

@@ -28,43 +28,38 @@ returns-then-input-output c =
 
 pub returns-then-not-sounds : goal.returns-then-not-sounds
 returns-then-not-sounds c =
-    let t = c.before.before.before.before.before in
-    let l = t.before.before in
-    let s = l.args in
+    let s = c.args in
     let xs = s.input.now in
-    let q = ltb-false 0 (loudest xs) (sym t.sounds.ensures ∙ not-true _ t.if-not-sounds.true) in
-    rw (← zeros xs (length s.output.now) l.if-input-output.false q) c.play.ensures
+    let q = ltb-false 0 (loudest xs) (sym c.sounds.ensures ∙ c.if-not-sounds.true) in
+    rw (← zeros xs (length s.output.now) c.if-input-output.false q) c.play.ensures
 
 pub returns-then-not-all_samples : goal.returns-then-not-all_samples
 returns-then-not-all_samples c =
-    let l = c.before.before.before.before in
-    let s = l.args in
+    let s = c.args in
     let xs = s.input.now in
-    let q = leb-false (loudest xs) M (sym c.all_samples.ensures ∙ not-true _ c.if-not-all_samples.true) in
+    let q = leb-false (loudest xs) M (sym c.all_samples.ensures ∙ c.if-not-all_samples.true) in
     let e = too_loud (strings_of s.heads.now s.lines.now) xs (length s.output.now)
-    l.if-input-output.false q in
-    refused xs s.output.now l.requires e (λ z. omega arith)
+    c.if-input-output.false q in
+    refused xs s.output.now c.requires e (λ z. omega arith)
 
 -- what is not refused is of samples alone
 samples : (c : (lts.Else3 tie.the-claims reads.Pre reads.Post)) → loudest c.args.input.now ≤ M
-samples c = leb-true _ M (sym c.all_samples.ensures ∙ not-false _ c.if-not-all_samples.false)
+samples c = leb-true _ M (sym c.all_samples.ensures ∙ c.if-not-all_samples.false)
 
 pub through-requires : goal.through-requires
 through-requires c =
-    let p = c.before.before.before.before in
-    let m = p.before.before in (
+    let m = c.before.before.before.before.before.before in (
       m.requires,
-      subst (λ (xs : List ℤ). loudest xs ≤ M) (sym p.copy.ensures) (samples m),
+      subst (λ (xs : List ℤ). loudest xs ≤ M) (sym c.copy.ensures) (samples m),
     )
 
 pub returns : goal.returns
 returns c =
-    let p = c.before.before.before.before.before.before in
-    let m = p.before.before in
+    let m = c.before.before.before.before.before.before.before.before in
     let l = m.before.before.before.before in
     let s = l.args in
     let r = c.through in
     let k = r.new in
     accepted s.input.now s.output.now l.if-input-output.false (samples m)
     (subst (λ (xs : List ℤ). Mixes s.heads.now s.lines.now xs k.0 k.1.0 k.1.1.1.0)
-    p.copy.ensures r.ensures)
+    c.copy.ensures r.ensures)

@@ -12,8 +12,7 @@ use Rattle.mix.proofs.play.Goals as goal
 
 pub through-requires : goal.through-requires
 through-requires c =
-    let s = c.before.before.before in
-    (s.requires, zeros-quiet s.args.output.now)
+    (c.requires, zeros-quiet c.args.output.now)
 
 pub returns : goal.returns
 returns c =

@@ -7,5 +7,4 @@ store-s-requires c = rw c.unpack-h.ensures c.requires
 
 pub returns : goal.returns
 returns c =
-    let s = c.before.before in
-    rw (← s.unpack-h.ensures) s.store-s.ensures
+    rw (← c.unpack-h.ensures) c.store-s.ensures

@@ -14,9 +14,8 @@ returns-then-string-gt5 c =
 
 pub returns : goal.returns
 returns c =
-    let s = c.before.before.before.before in
-    let g = s.args in
+    let g = c.args in
     let r = c.open_voice.ensures in
     played g.string
     (opens (record { N = g.order; L = g.length; d = g.delay; G = g.loss; Na = g.advance }))
-    _ s.requires (omega arith) _ r.number r.state r.valid
+    _ c.requires (omega arith) _ r.number r.state r.valid

@@ -14,11 +14,9 @@ returns-then-string-gt5 c =
 
 pub pluck-requires : goal.pluck-requires
 pluck-requires c =
-    let s = c.before.before in
-    s.requires.fit s.args.string (omega arith)
+    c.requires.fit c.args.string (omega arith)
 
 pub returns : goal.returns
 returns c =
-    let s = c.before.before.before in
-    called s.args.string (pluck s.args.amplitude s.args.count s.args.seed) _
-    s.requires (omega arith) c.pluck.ensures
+    called c.args.string (pluck c.args.amplitude c.args.count c.args.seed) _
+    c.requires (omega arith) c.pluck.ensures

@@ -40,6 +40,4 @@ resets r w o e = record {
 
 pub returns : goal.returns
 returns c =
-    let p = c.before.before.before in
-    let o = p.before.before in
-    resets o.«open».result p.pack-w.result o.«open».ensures p.pack-w.ensures
+    resets c.«open».result c.pack-w.result c.«open».ensures c.pack-w.ensures

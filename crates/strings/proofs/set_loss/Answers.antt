@@ -13,10 +13,8 @@ returns-then-string-gt5 c =
 
 pub set_loss-requires : goal.set_loss-requires
 set_loss-requires c =
-    let s = c.before.before in
-    s.requires.fit s.args.string (omega arith)
+    c.requires.fit c.args.string (omega arith)
 
 pub returns : goal.returns
 returns c =
-    let s = c.before.before.before in
-    called s.args.string (loss s.args.g) _ s.requires (omega arith) c.set_loss.ensures
+    called c.args.string (loss c.args.g) _ c.requires (omega arith) c.set_loss.ensures

@@ -7,9 +7,8 @@ use Rattle.kept.proofs.blocks.feed.Goals as goal
 
 pub returns-then-is_silent : goal.returns-then-is_silent
 returns-then-is_silent c =
-    let t = c.before.before.before.before.before in
-    let s = t.args in
-    let q = t.is_silent.ensures t.if-is_silent.true in
+    let s = c.args in
+    let q = c.is_silent.ensures c.if-is_silent.true in
     rw (← zeros s.input.now (length s.output.now) q.0 q.1) c.play.ensures
 
 pub block-a-requires : goal.block-a-requires
@@ -20,5 +19,4 @@ pack-w-requires c = c.block-a.ensures.0.valid.fit
 
 pub returns : goal.returns
 returns c =
-    let b = c.before.before.before in
-    rw (← b.unpack-h.ensures, c.pack-w.ensures) b.block-a.ensures
+    rw (← c.unpack-h.ensures, c.pack-w.ensures) c.block-a.ensures

@@ -12,6 +12,5 @@ returns-then-input-room c = λ e. absurd (true≢false (sym e))
 pub returns : goal.returns
 returns c =
     λ e.
-    let l = c.before in
-    let xs = l.args.input.now in
-    (l.if-input-room.false, ltb-false 0 (loudest xs) (sym c.sounds.ensures ∙ not-true _ e))
+    let xs = c.args.input.now in
+    (c.if-input-room.false, ltb-false 0 (loudest xs) (sym c.sounds.ensures ∙ e))

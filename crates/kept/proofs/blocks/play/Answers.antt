@@ -20,17 +20,15 @@ unfed-k-requires c = rw c.unpack-h.ensures c.requires
 
 pub returns : goal.returns
 returns c =
-    let b = c.before.before in
-    let u = b.before.before.before in
-    let s = u.args in
-    let h = u.unpack-h.result in
+    let s = c.args in
+    let h = c.unpack-h.result in
     let l = s.line.now in
     let n = length s.output.now in
     let xs = replicate n (pos 0) in
     let e = plays (voice_of h) xs n (length-replicate n (pos 0)) (zeros-quiet n) in
-    let f = b.unfed-k.ensures in
-    let k = b.unfed-k.new in
-    rw (← u.unpack-h.ensures, c.pack-w.ensures) (
-      block_on h l xs n e b.unfed-k.result k.0 f.valid f.after,
+    let f = c.unfed-k.ensures in
+    let k = c.unfed-k.new in
+    rw (← c.unpack-h.ensures, c.pack-w.ensures) (
+      block_on h l xs n e c.unfed-k.result k.0 f.valid f.after,
       block-lent h l xs n e k.1.1.0 s.output.now f.out,
     )

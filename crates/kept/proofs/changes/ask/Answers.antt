@@ -7,5 +7,4 @@ ask-a-requires c = rw c.unpack-h.ensures c.requires
 
 pub returns : goal.returns
 returns c =
-    let a = c.before.before in
-    rw (← a.unpack-h.ensures, c.pack-w.ensures) a.ask-a.ensures
+    rw (← c.unpack-h.ensures, c.pack-w.ensures) c.ask-a.ensures

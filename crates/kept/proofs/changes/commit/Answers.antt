@@ -10,5 +10,4 @@ pack-w-requires c = c.commit-r.ensures.fit
 
 pub returns : goal.returns
 returns c =
-    let a = c.before.before in
-    rw (← a.unpack-h.ensures, c.pack-w.ensures) a.commit-r.ensures
+    rw (← c.unpack-h.ensures, c.pack-w.ensures) c.commit-r.ensures

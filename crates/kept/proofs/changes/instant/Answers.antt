@@ -8,5 +8,4 @@ instant-c-requires c = rw c.unpack-h.ensures c.requires
 
 pub returns : goal.returns
 returns c =
-    let a = c.before.before.before in
-    rw (← a.unpack-h.ensures, c.pack-w.ensures) a.instant-c.ensures
+    rw (← c.unpack-h.ensures, c.pack-w.ensures) c.instant-c.ensures

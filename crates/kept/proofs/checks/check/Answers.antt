@@ -15,35 +15,32 @@ returns-then-not-fits c = (
   omega arith,
   (
     (λ e. absurd (omega (arith, e))),
-    (λ v. absurd (true≢false (sym (c.fits2.ensures.1 v.fit) ∙ not-true _ c.if-not-fits.true))),
+    (λ v. absurd (true≢false (sym (c.fits2.ensures.1 v.fit) ∙ c.if-not-fits.true))),
   ),
 )
 
 pub returns-then-not-all_samples : goal.returns-then-not-all_samples
 returns-then-not-all_samples c =
-    let a = c.before in
-    let s = a.args in
+    let s = c.args in
     let l = s.line.now in (
       omega arith,
       (
         (λ e. absurd (omega (arith, e))),
         (λ v.
             let q = (line-is (head_of s.head.now).at l).1 v.line in
-            absurd (true≢false (sym (a.all_samples.ensures ∙ le-leb (loudest l) M q) ∙ not-true _ c.if-not-all_samples.true))),
+            absurd (true≢false (sym (c.all_samples.ensures ∙ le-leb (loudest l) M q) ∙ c.if-not-all_samples.true))),
       ),
     )
 
 pub returns : goal.returns
 returns c =
-    let a = c.before in
-    let e1 = a.before.before in
-    let s = e1.args in
+    let s = c.args in
     let l = s.line.now in
-    let q = leb-true (loudest l) M (sym a.all_samples.ensures ∙ not-false _ c.if-not-all_samples.false) in (
+    let q = leb-true (loudest l) M (sym c.all_samples.ensures ∙ c.if-not-all_samples.false) in (
       omega arith,
       (
         (λ e. record {
-          fit = e1.fits2.ensures.0 (not-false _ e1.if-not-fits.false);
+          fit = c.fits2.ensures.0 (c.if-not-fits.false);
           line = (line-is (head_of s.head.now).at l).0 q;
         }),
         (λ v. refl),

@@ -12,6 +12,7 @@ use Rattle.load.proofs.limits.all_samples.Reads as reads
 use Rattle.load.proofs.limits.all_samples.Lts as lts
 use Rattle.load.proofs.limits.magnitude.Reads as magnitude-reads
 use Rattle.octets.proofs.four.Reads as four-reads
+use Rattle.load.proofs.limits.all_samples.Goals.{then-magnitude-gt8388607, else-magnitude-gt8388607}
 use Rattle.load.proofs.limits.all_samples.Goals as goal
 
 -- src/limits.rt:157:5
@@ -30,10 +31,14 @@ loop-i-preserved c =
     let s = c.args in
     let w = c.four in
     let e = c.magnitude.ensures ∙ ap nat_abs (word_read s.s.now (s.at + 4 * i) w.result w.ensures.0) in
-    ⊎_elim
-    (λ j. (omega arith, rw j.1 (too_loud s.s.now s.at i c.magnitude.result e j.0.true)))
-    (λ j. (omega arith, rw j.1 (one_more s.s.now s.at i c.magnitude.result l.good e j.0.left l.invariant.1)))
-    c.if-magnitude-gt8388607.branch
+    elim c.if-magnitude-gt8388607.branch [
+      then-magnitude-gt8388607 t ↦
+        (omega arith, rw t.good-is (too_loud s.s.now s.at i c.magnitude.result e t.if-magnitude-gt8388607.true))
+      | else-magnitude-gt8388607 t ↦ (
+        omega arith,
+        rw t.good-is (one_more s.s.now s.at i c.magnitude.result l.good e t.if-magnitude-gt8388607.false l.invariant.1),
+      )
+    ]
 
 -- src/limits.rt:151:1
 pub returns : goal.returns

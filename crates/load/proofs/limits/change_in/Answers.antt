@@ -24,5 +24,5 @@ returns-then-not-taken_in c =
 pub returns : goal.returns
 returns c =
     let s = c.args in
-    by_filter s.advance s.c c.filter_in_lem.result c.if-c-eq0.false
-    (granted c.taken_in.ensures c.if-not-taken_in.false) c.filter_in_lem.ensures
+    by_filter s.advance s.c c.filter_in.result c.if-c-eq0.false
+    (granted c.taken_in.ensures c.if-not-taken_in.false) c.filter_in.ensures

@@ -12,7 +12,7 @@ use Rattle.load.proofs.limits.head_in.Goals as goal
 -- src/limits.rt:131:9
 pub returns-then-not-filter_in : goal.returns-then-not-filter_in
 returns-then-not-filter_in c =
-    says_no (λ h. refuted c.filter_in_lem.ensures c.if-not-filter_in.true h.filter)
+    says_no (λ h. refuted c.filter_in.ensures c.if-not-filter_in.true h.filter)
 
 -- src/limits.rt:134:9
 pub returns-then-w-gt65535 : goal.returns-then-w-gt65535
@@ -37,7 +37,7 @@ returns c =
     let s = c.change_in.ensures in
     record {
       yes = λ t. record {
-        filter = granted c.filter_in_lem.ensures c.if-not-filter_in.false;
+        filter = granted c.filter_in.ensures c.if-not-filter_in.false;
         loss = c.if-w-gt65535.false;
         advance = c.if-w-gt64.false;
         last = omega (arith, c.magnitude.ensures, c.if-magnitude-gt8388607.false);

@@ -11,9 +11,8 @@ use Rattle.mix.proofs.parts.mix_part.Goals as goal
 
 pub returns : goal.returns
 returns c =
-    let u = c.before.before.before.before.before.before in
-    let s = u.args in
-    let r = u.sum_strings.ensures in
+    let s = c.args in
+    let r = c.sum_strings.ensures in
     record {
       after = r.after;
       out =

@@ -7,21 +7,18 @@ use Rattle.mix.proofs.parts.part.Goals as goal
 
 pub slice_bounds-mix_part-end-2 : goal.slice_bounds-mix_part-end-2
 slice_bounds-mix_part-end-2 c =
-    let s = c.before.before.before.before in
-    sym (length-take-le (length s.args.buffer.now) s.args.room.now s.requires.1.0)
+    sym (length-take-le (length c.args.buffer.now) c.args.room.now c.requires.1.0)
 
 pub slice_bounds-mix_part-end-4 : goal.slice_bounds-mix_part-end-4
 slice_bounds-mix_part-end-4 c =
-    let s = c.before.before.before.before.before in
-    sym (length-take-le (length s.args.buffer.now) s.args.sums.now s.requires.1.1)
+    sym (length-take-le (length c.args.buffer.now) c.args.sums.now c.requires.1.1)
 
 pub mix_part-requires : goal.mix_part-requires
 mix_part-requires c =
-    let s = c.before.before.before.before.before in
-    let n = length s.args.buffer.now in (
-      s.requires.0,
+    let n = length c.args.buffer.now in (
+      c.requires.0,
       (
-        sym (length-take-le n s.args.room.now s.requires.1.0),
-        sym (length-take-le n s.args.sums.now s.requires.1.1),
+        sym (length-take-le n c.args.room.now c.requires.1.0),
+        sym (length-take-le n c.args.sums.now c.requires.1.1),
       ),
     )

@@ -19,8 +19,7 @@ use Rattle.mix.proofs.parts.sum_strings.Tie as tie
 
 pub render_string-requires : goal.render_string-requires
 render_string-requires c =
-    let s = c.before.before.before in
-    ((s.requires.0.0.valid 0 (omega arith), s.requires.1.1), s.requires.0.1)
+    ((c.requires.0.0.valid 0 (omega arith), c.requires.1.1), c.requires.0.1)
 
 pub loop-k-init : goal.loop-k-init
 loop-k-init c = (omega arith, omega arith, refl, refl, λ s f. f)
@@ -54,13 +53,12 @@ add_string-requires c =
 
 pub loop-k-preserved : goal.loop-k-preserved
 loop-k-preserved c =
-    let p = c.before.before.before.before.before.before.before.before in
-    let k : p.loop-k.k ≤ 5 = omega arith in (
+    let k : c.loop-k.k ≤ 5 = omega arith in (
       omega arith,
       omega arith,
       search rules,
       search rules,
-      λ s f. firsts_more (p.loop-k.invariant.4 s f) k c.add_string.ensures,
+      λ s f. firsts_more (c.loop-k.invariant.4 s f) k c.add_string.ensures,
     )
 
 pub returns : goal.returns

@@ -41,8 +41,7 @@ overflow_add-i c =
 
 pub offset_bounds-buffer-i : goal.offset_bounds-buffer-i
 offset_bounds-buffer-i c =
-    let p = c.before.before in
-    omega (arith, p.loop-i.invariant.0.within, p.loop-i.invariant.0.long, p.well-formed)
+    omega (arith, c.loop-i.invariant.0.within, c.loop-i.invariant.0.long, c.well-formed)
 
 pub slice_bounds-part-count : goal.slice_bounds-part-count
 slice_bounds-part-count c = omega arith

@@ -20,18 +20,17 @@ use Rattle.mix.proofs.row.add_string.Goals as goal
 
 pub add-requires : goal.add-requires
 add-requires c =
-    let s = c.before.before.before.before.before.before.before in
     let r = c.render_string in
-    let v = state_of (head_of s.args.head.now) s.args.line.now in
-    let xs = fed_of s.args.fed 0 s.args.input.now in
-    let n : length r.new.1.1.1.1.0 ≡ length s.args.sums.now
+    let v = state_of (head_of c.args.head.now) c.args.line.now in
+    let xs = fed_of c.args.fed 0 c.args.input.now in
+    let n : length r.new.1.1.1.1.0 ≡ length c.args.sums.now
     = ap length r.ensures.out
     ∙ length-out v xs
-    ∙ length-fed s.args.fed 0 s.args.input.now
-    ∙ s.requires.1.0.0 in
+    ∙ length-fed c.args.fed 0 c.args.input.now
+    ∙ c.requires.1.0.0 in
     let q : loudest r.new.1.1.1.1.0 ≤ M
     = subst (λ (l : List ℤ). loudest l ≤ M) (sym r.ensures.out) (out-quiet v xs) in
-    ((n, q), s.requires.1.1)
+    ((n, q), c.requires.1.1)
 
 pub returns : goal.returns
 returns c =

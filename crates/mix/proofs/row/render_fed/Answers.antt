@@ -8,13 +8,11 @@ render-k-requires c = rw c.unpack-h.ensures c.requires
 
 pub returns : goal.returns
 returns c =
-    let r = c.before.before in
-    let u = r.before.before.before in
-    let e = r.render-k.ensures in
+    let e = c.render-k.ensures in
     record {
       after = record {
-        state = rw (← u.unpack-h.ensures, c.pack-w.ensures) e.0;
+        state = rw (← c.unpack-h.ensures, c.pack-w.ensures) e.0;
         valid = rw c.pack-w.ensures e.1.1;
       };
-      out = rw (← u.unpack-h.ensures) e.1.0;
+      out = rw (← c.unpack-h.ensures) e.1.0;
     }

@@ -15,34 +15,29 @@ use Rattle.mix.proofs.row.render_string.Goals as goal
 
 pub render_fed-requires : goal.render_fed-requires
 render_fed-requires c =
-    let p = c.before.before.before.before in
-    let t = p.before.before in
-    let s = t.before in (
-      s.requires.0.0,
-      subst (λ (xs : List ℤ). loudest xs ≤ M) (sym p.copy.ensures)
-          (subst (λ (b : Bool). loudest (fed_of b 0 s.args.input.now) ≤ M) t.if-fed.true s.requires.1),
+    (
+      c.requires.0.0,
+      subst (λ (xs : List ℤ). loudest xs ≤ M) (sym c.copy.ensures)
+          (subst (λ (b : Bool). loudest (fed_of b 0 c.args.input.now) ≤ M) c.if-fed.true c.requires.1),
     )
 
 pub returns-then-fed : goal.returns-then-fed
 returns-then-fed c =
-    let p = c.before.before.before.before.before.before in
-    let t = p.before.before in
-    let s = t.args in
+    let s = c.args in
     let r = c.render_fed in
     subst (λ (xs : List ℤ). Rendered s.head.now s.line.now xs r.new.0 r.new.1.0
     r.new.1.1.0)
-    (p.copy.ensures ∙ sym (ap (λ (b : Bool). fed_of b 0 s.input.now) t.if-fed.true))
+    (c.copy.ensures ∙ sym (ap (λ (b : Bool). fed_of b 0 s.input.now) c.if-fed.true))
     r.ensures
 
 pub returns-else-fed : goal.returns-else-fed
 returns-else-fed c =
-    let t = c.before.before.before.before.before in
-    let s = t.args in
+    let s = c.args in
     let r = c.render_unfed in
     let xs = s.input.now in
     subst (λ (xs : List ℤ). Rendered s.head.now s.line.now xs r.new.0 r.new.1.0
     r.new.1.1.0)
-    (ap (λ (n : ℕ). replicate n (pos 0)) (sym t.requires.0.1)
+    (ap (λ (n : ℕ). replicate n (pos 0)) (sym c.requires.0.1)
     ∙ sym (cleared-zeros xs)
-    ∙ sym (ap (λ (b : Bool). fed_of b 0 xs) t.if-fed.false))
+    ∙ sym (ap (λ (b : Bool). fed_of b 0 xs) c.if-fed.false))
     r.ensures

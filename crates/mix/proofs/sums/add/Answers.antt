@@ -23,26 +23,23 @@ loop-i-init c =
 pub total-y-requires : goal.total-y-requires
 total-y-requires c =
     let l = c.loop-i in
-    let s = c.before.before.before.before in
     let a = get_or l.sums l.i (pos 0) in
-    let b = get_or s.args.samples.now l.i (pos 0) in
+    let b = get_or c.args.samples.now l.i (pos 0) in
     let e = l.invariant.1 l.i (omega arith) in
     rw (read w32 a c.total-arg-1.given e, read w32 b c.total-arg-in-loop-i-1.given refl) (
-      omega (arith, loud s.args.sums.now l.i, s.requires.1),
-      omega (arith, loud s.args.samples.now l.i, s.requires.0.1),
+      omega (arith, loud c.args.sums.now l.i, c.requires.1),
+      omega (arith, loud c.args.samples.now l.i, c.requires.0.1),
     )
 
 pub loop-i-preserved : goal.loop-i-preserved
 loop-i-preserved c =
-    let p = c.before.before.before.before in
-    let l = p.loop-i in
-    let s = p.before in
-    let u = s.args.sums.now in
-    let x = s.args.samples.now in
+    let l = c.loop-i in
+    let u = c.args.sums.now in
+    let x = c.args.samples.now in
     let a = get_or l.sums l.i (pos 0) in
     let b = get_or x l.i (pos 0) in
     let i : l.i < length x = omega arith in
-    let k : l.i < length u = omega (arith, s.requires.0.0) in
+    let k : l.i < length u = omega (arith, c.requires.0.0) in
     let e =
     read w32 c.total-y.result c.total-y.type-inv
     (c.total-y.ensures
@@ -57,7 +54,6 @@ loop-i-preserved c =
 pub returns : goal.returns
 returns c =
     let l = c.loop-i in
-    let s = c.before.before in
-    let u = s.args.sums.now in
-    let x = s.args.samples.now in
-    all-taken (plus u x) l.sums l.i l.invariant.0 (omega (arith, length-plus u x, s.requires.0.0))
+    let u = c.args.sums.now in
+    let x = c.args.samples.now in
+    all-taken (plus u x) l.sums l.i l.invariant.0 (omega (arith, length-plus u x, c.requires.0.0))

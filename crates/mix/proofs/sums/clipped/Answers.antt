@@ -6,22 +6,19 @@ use Rattle.mix.proofs.sums.clipped.Goals as goal
 
 pub returns-then-u-ltminus8388607 : goal.returns-then-u-ltminus8388607
 returns-then-u-ltminus8388607 c =
-    let s = c.before in
-    let u = s.args.u in
-    let l = rw (to_z-of_z s.ranges.u) at c.if-u-ltminus8388607.true in
+    let u = c.args.u in
+    let l = rw (to_z-of_z c.ranges.u) at c.if-u-ltminus8388607.true in
     omega (Zs, clipv u, onev u)
 
 pub returns-then-u-gt8388607 : goal.returns-then-u-gt8388607
 returns-then-u-gt8388607 c =
-    let s = c.before.before in
-    let u = s.args.u in
-    let k = rw (to_z-of_z s.ranges.u) at c.if-u-gt8388607.true in
+    let u = c.args.u in
+    let k = rw (to_z-of_z c.ranges.u) at c.if-u-gt8388607.true in
     omega (Zs, clipv u, onev u)
 
 pub returns : goal.returns
 returns c =
-    let s = c.before.before in
-    let u = s.args.u in
-    let l = rw (to_z-of_z s.ranges.u) at c.if-u-ltminus8388607.false in
-    let k = rw (to_z-of_z s.ranges.u) at c.if-u-gt8388607.false in
-    rw (to_z-of_z s.ranges.u) (omega (Zs, clipv u, onev u))
+    let u = c.args.u in
+    let l = rw (to_z-of_z c.ranges.u) at c.if-u-ltminus8388607.false in
+    let k = rw (to_z-of_z c.ranges.u) at c.if-u-gt8388607.false in
+    rw (to_z-of_z c.ranges.u) (omega (Zs, clipv u, onev u))

@@ -15,11 +15,9 @@ returns-then-string-gt5 c =
 
 pub ask-requires : goal.ask-requires
 ask-requires c =
-    let s = c.before.before in
-    s.requires.fit s.args.string (omega arith)
+    c.requires.fit c.args.string (omega arith)
 
 pub returns : goal.returns
 returns c =
-    let s = c.before.before.before in
-    called s.args.string (ask (tuning s.args.order s.args.length s.args.delay)) _
-    s.requires (omega arith) c.ask.ensures
+    called c.args.string (ask (tuning c.args.order c.args.length c.args.delay)) _
+    c.requires (omega arith) c.ask.ensures

@@ -13,10 +13,8 @@ returns-then-string-gt5 c =
 
 pub commit-requires : goal.commit-requires
 commit-requires c =
-    let s = c.before.before in
-    s.requires.fit s.args.string (omega arith)
+    c.requires.fit c.args.string (omega arith)
 
 pub returns : goal.returns
 returns c =
-    let s = c.before.before.before in
-    called s.args.string commit _ s.requires (omega arith) c.commit.ensures
+    called c.args.string commit _ c.requires (omega arith) c.commit.ensures

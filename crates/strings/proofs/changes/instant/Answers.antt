@@ -22,16 +22,14 @@ returns-then-string-gt5 c =
 
 pub instant-requires : goal.instant-requires
 instant-requires c =
-    let s = c.before.before.before.before in
-    s.requires.valid s.args.string (omega arith)
+    c.requires.valid c.args.string (omega arith)
 
 pub returns : goal.returns
 unfolding C.number
 returns c =
-    let s = c.before.before.before.before.before in
-    let k = s.args.string in
-    let a = calls (instant (tuning s.args.order s.args.length s.args.delay)) in
+    let k = c.args.string in
+    let a = calls (instant (tuning c.args.order c.args.length c.args.delay)) in
     let r = c.instant.ensures in (
-      played-still k a _ s.requires (omega arith) r.0.number r.0.state r.0.valid,
-      r.1 ∙ sym (count-itself k (omega arith) (strings_of s.args.heads.now s.args.lines.now) a),
+      played-still k a _ c.requires (omega arith) r.0.number r.0.state r.0.valid,
+      r.1 ∙ sym (count-itself k (omega arith) (strings_of c.args.heads.now c.args.lines.now) a),
     )

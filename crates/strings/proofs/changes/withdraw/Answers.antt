@@ -13,10 +13,8 @@ returns-then-string-gt5 c =
 
 pub withdraw-requires : goal.withdraw-requires
 withdraw-requires c =
-    let s = c.before.before in
-    s.requires.fit s.args.string (omega arith)
+    c.requires.fit c.args.string (omega arith)
 
 pub returns : goal.returns
 returns c =
-    let s = c.before.before.before in
-    called s.args.string withdraw _ s.requires (omega arith) c.withdraw.ensures
+    called c.args.string withdraw _ c.requires (omega arith) c.withdraw.ensures

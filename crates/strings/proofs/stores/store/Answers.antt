@@ -22,16 +22,14 @@ returns-then-string-gt5 c =
 
 pub store-requires : goal.store-requires
 store-requires c =
-    let s = c.before.before.before.before.before.before in
-    s.requires.valid s.args.string (omega arith)
+    c.requires.valid c.args.string (omega arith)
 
 pub returns : goal.returns
 unfolding store_number
 returns c =
-    let s = c.before.before.before.before.before.before.before.before.before in
-    let k = s.args.string in
-    let v = strings_of s.args.heads.now s.args.lines.now in
-    let old = s.args.bytes.now in
+    let k = c.args.string in
+    let v = strings_of c.args.heads.now c.args.lines.now in
+    let old = c.args.bytes.now in
     let h : k ≤ 5 = omega arith in
     let r = c.store.ensures in (
       r.number ∙ sym (number-itself k h v (I.store old)),
