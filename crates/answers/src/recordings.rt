@@ -3,7 +3,7 @@
 ghost use Rattle.std.specs.Prelude.{◌≤◌, length};
 ghost use Rattle.request.specs.InLine.{InLine};
 
-use print::{file, number, pair, short};
+use print::{Out, file, number, pair, short};
 use request::Request;
 use request::lists::{bytes, bytes_room};
 use wav::{Recorded, Written};
@@ -17,7 +17,7 @@ fn written(rate: u32, given: &[i32; 4096], count: usize, file: &mut [u8], places
 }
 
 // The answer to a line that asks for a file.
-pub fn write(buffer: &mut [u8; 4096], at: usize, s: &[u8], l: Request) -> usize
+pub fn write(out: Out, buffer: &mut [u8; 4096], at: usize, s: &[u8], l: Request) -> usize
     requires { InLine (length s.now) l }
     ensures { result ≤ 4097 }
 {
@@ -26,9 +26,9 @@ pub fn write(buffer: &mut [u8; 4096], at: usize, s: &[u8], l: Request) -> usize
     let r = request::lists::samples(&s[list..], &mut given);
     let mut lent = [77u8; 32768];
     let w = written(l.a, &given, r.count, &mut lent, l.places);
-    let a = short(buffer, at, w.refusal);
-    let b = number(buffer, a, w.count as u64);
-    file(buffer, b, &lent, l.places)
+    let a = short(out, buffer, at, w.refusal);
+    let b = number(out, buffer, a, w.count as u64);
+    file(out, buffer, b, &lent, l.places)
 }
 
 // Reads the first bytes over the first samples.
@@ -40,7 +40,7 @@ fn recorded(given: &[u8; 349526], count: usize, samples: &mut [i32], places: usi
 }
 
 // The answer to a line that asks for the samples of a file.
-pub fn read(buffer: &mut [u8; 4096], at: usize, s: &[u8], l: Request) -> usize
+pub fn read(out: Out, buffer: &mut [u8; 4096], at: usize, s: &[u8], l: Request) -> usize
     requires { InLine (length s.now) l }
     ensures { result ≤ 4097 }
 {
@@ -49,7 +49,7 @@ pub fn read(buffer: &mut [u8; 4096], at: usize, s: &[u8], l: Request) -> usize
     let r = bytes(&s[list..], &mut given);
     let mut lent = [77i32; 32768];
     let w = recorded(&given, r.count, &mut lent, l.places);
-    let a = pair(buffer, at, w.refusal, w.rate);
-    let b = number(buffer, a, w.count as u64);
-    print::samples(buffer, b, &lent, l.places)
+    let a = pair(out, buffer, at, w.refusal, w.rate);
+    let b = number(out, buffer, a, w.count as u64);
+    print::samples(out, buffer, b, &lent, l.places)
 }

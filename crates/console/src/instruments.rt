@@ -14,19 +14,19 @@ use request::kinds::{LINE, LOAD, STATE, STORE};
 use request::lists::samples;
 
 // A string's state.
-fn string_state(heads: &[[u32; 27]; 6], buffer: &mut [u8; 4096], at: usize, string: u32) -> usize {
+fn string_state(heads: &[[u32; 27]; 6], out: Out, buffer: &mut [u8; 4096], at: usize, string: u32) -> usize {
     if 5 < string {
         return at;
     }
     let k = string as usize;
-    state(buffer, at, unpack(&heads[k]))
+    state(out, buffer, at, unpack(&heads[k]))
 }
 
 // The last samples of a string's line.
 fn string_line(
     heads: &[[u32; 27]; 6],
     lines: &[[i32; 2112]; 6],
-    buffer: &mut [u8; 4096],
+    out: Out, buffer: &mut [u8; 4096],
     at: usize,
     string: u32,
     count: usize,
@@ -38,14 +38,14 @@ fn string_line(
     }
     let k = string as usize;
     let h = unpack(&heads[k]);
-    past(buffer, at, &lines[k], h.at, count)
+    past(out, buffer, at, &lines[k], h.at, count)
 }
 
 // A string stored.
 fn string_form(
     heads: &[[u32; 27]; 6],
     lines: &[[i32; 2112]; 6],
-    buffer: &mut [u8; 4096],
+    out: Out, buffer: &mut [u8; 4096],
     at: usize,
     string: u32,
     places: usize,
@@ -54,16 +54,16 @@ fn string_form(
 {
     let mut lent = [77u8; 32768];
     let r = store_string(heads, lines, string, &mut lent, places);
-    let a = short(buffer, at, r.refusal);
-    let b = number(buffer, a, r.length as u64);
-    file(buffer, b, &lent, places)
+    let a = short(out, buffer, at, r.refusal);
+    let b = number(out, buffer, a, r.length as u64);
+    file(out, buffer, b, &lent, places)
 }
 
 // A call on a string.
 pub fn turn_string(
     heads: &mut [[u32; 27]; 6],
     lines: &mut [[i32; 2112]; 6],
-    buffer: &mut [u8; 4096],
+    out: Out, buffer: &mut [u8; 4096],
     at: usize,
     s: &[u8],
     l: Request,
@@ -72,20 +72,20 @@ pub fn turn_string(
     ensures { Voices heads.new lines.new }
 {
     if l.kind == STATE {
-        return string_state(heads, buffer, at, l.string);
+        return string_state(heads, out, buffer, at, l.string);
     }
     if l.kind == LINE {
-        return string_line(heads, lines, buffer, at, l.string, l.places);
+        return string_line(heads, lines, out, buffer, at, l.string, l.places);
     }
     if l.kind == STORE {
-        return string_form(heads, lines, buffer, at, l.string, l.places);
+        return string_form(heads, lines, out, buffer, at, l.string, l.places);
     }
     if l.kind == LOAD {
         let r = load_string(heads, lines, l.string, s, l.list);
-        return short(buffer, at, r);
+        return short(out, buffer, at, r);
     }
     let c = call_string(heads, lines, l);
-    returned(buffer, at, l.kind, c.refusal, c.count)
+    returned(out, buffer, at, l.kind, c.refusal, c.count)
 }
 
 // A block of all strings over the first samples of the input and of the output.
@@ -108,7 +108,7 @@ fn mix_first(
 pub fn turn_mix(
     heads: &mut [[u32; 27]; 6],
     lines: &mut [[i32; 2112]; 6],
-    buffer: &mut [u8; 4096],
+    out: Out, buffer: &mut [u8; 4096],
     at: usize,
     s: &[u8],
     l: Request,
@@ -121,6 +121,6 @@ pub fn turn_mix(
     let x = samples(&s[list..], &mut input);
     let mut output = [77i32; 32768];
     let r = mix_first(heads, lines, &input, x.count, &mut output, l.places);
-    let a = short(buffer, at, r);
-    print::samples(buffer, a, &output, l.places)
+    let a = short(out, buffer, at, r);
+    print::samples(out, buffer, a, &output, l.places)
 }

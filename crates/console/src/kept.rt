@@ -38,7 +38,7 @@ pub fn rest(room: &mut [u8; ROOM], held: usize, left: usize, long: bool) -> usiz
 }
 
 // Writes the answers; the line that comes next is answered by what is wrong with it where it is too long.
-pub fn written(buffer: &mut [u8; 4096], k: Kept) -> Kept
+pub fn written(out: Out, buffer: &mut [u8; 4096], k: Kept) -> Kept
     requires { k.held ≤ 1048577 }
     ensures { (result.head ≡ k.head) × (result.held ≤ 1048577) }
 {
@@ -46,17 +46,17 @@ pub fn written(buffer: &mut [u8; 4096], k: Kept) -> Kept
     if k.held < ROOM {
         return Kept {
             head: h,
-            at: flush(buffer, k.at),
+            at: flush(out, buffer, k.at),
             index: k.index,
             held: k.held,
             long: k.long,
         };
     }
-    let a = wrong(buffer, k.at, k.index, LONG);
-    let b = bytes(buffer, a, b"\n");
+    let a = wrong(out, buffer, k.at, k.index, LONG);
+    let b = bytes(out, buffer, a, b"\n");
     Kept {
         head: h,
-        at: flush(buffer, b),
+        at: flush(out, buffer, b),
         index: k.index,
         held: 0,
         long: true,

@@ -28,7 +28,7 @@ fn one(
     junction: &mut [u32; 16],
     heads: &mut [[u32; 27]; 6],
     lines: &mut [[i32; 2112]; 6],
-    buffer: &mut [u8; 4096],
+    out: Out, buffer: &mut [u8; 4096],
     at: usize,
     s: &[u8],
     index: u64,
@@ -48,6 +48,7 @@ fn one(
         junction,
         heads,
         lines,
+        out,
         buffer,
         at,
         bare(s),
@@ -62,7 +63,7 @@ fn whole(
     heads: &mut [[u32; 27]; 6],
     lines: &mut [[i32; 2112]; 6],
     k: Kept,
-    buffer: &mut [u8; 4096],
+    out: Out, buffer: &mut [u8; 4096],
     s: &[u8],
 ) -> Kept
     requires { Valid k.head line.old × Joined (from_words junction.old)
@@ -88,6 +89,7 @@ fn whole(
             junction,
             heads,
             lines,
+            out,
             buffer,
             at,
             &t[..e],
@@ -116,7 +118,7 @@ pub fn came(
     heads: &mut [[u32; 27]; 6],
     lines: &mut [[i32; 2112]; 6],
     k: Kept,
-    buffer: &mut [u8; 4096],
+    out: Out, buffer: &mut [u8; 4096],
     room: &mut [u8; ROOM],
     held: usize,
 ) -> Kept
@@ -127,7 +129,7 @@ pub fn came(
         × (result.held ≤ 1048577) }
 {
     let s: &[u8] = room;
-    let d = whole(line, junction, heads, lines, k, buffer, &s[..held]);
+    let d = whole(line, junction, heads, lines, k, out, buffer, &s[..held]);
     let n = rest(room, held, d.held, d.long);
     let h = d.head;
     let w = Kept {
@@ -137,5 +139,5 @@ pub fn came(
         held: n,
         long: d.long,
     };
-    written(buffer, w)
+    written(out, buffer, w)
 }

@@ -47,7 +47,7 @@ fn last(
     heads: &mut [[u32; 27]; 6],
     lines: &mut [[i32; 2112]; 6],
     k: Kept,
-    buffer: &mut [u8; 4096],
+    out: Out, buffer: &mut [u8; 4096],
     room: &[u8; ROOM],
 ) -> usize
     requires { Valid k.head line.old × Joined (from_words junction.old)
@@ -64,6 +64,7 @@ fn last(
         junction,
         heads,
         lines,
+        out,
         buffer,
         k.at,
         &s[..held],
@@ -86,7 +87,7 @@ fn finish(
     heads: &mut [[u32; 27]; 6],
     lines: &mut [[i32; 2112]; 6],
     k: Kept,
-    buffer: &mut [u8; 4096],
+    out: Out, buffer: &mut [u8; 4096],
     room: &[u8; ROOM],
     failed: bool,
 )
@@ -97,8 +98,8 @@ fn finish(
         os::fail(b"console: standard input");
         return;
     }
-    let at = last(line, junction, heads, lines, k, buffer, room);
-    complain(flush(buffer, at));
+    let at = last(line, junction, heads, lines, k, out, buffer, room);
+    complain(flush(out, buffer, at));
 }
 
 // Reads and answers until the input ends, a read fails, or standard output takes no more. A loop must end, so it
@@ -109,7 +110,7 @@ fn answer(
     heads: &mut [[u32; 27]; 6],
     lines: &mut [[i32; 2112]; 6],
     mut k: Kept,
-    buffer: &mut [u8; 4096],
+    out: Out, buffer: &mut [u8; 4096],
     room: &mut [u8; ROOM],
 )
     requires { Valid k.head line.old × Joined (from_words junction.old)
@@ -120,10 +121,10 @@ fn answer(
         turns = turns - 1;
         let r = more(room, k.held);
         if r.held <= k.held {
-            finish(line, junction, heads, lines, k, buffer, room, r.failed);
+            finish(line, junction, heads, lines, k, out, buffer, room, r.failed);
             return;
         }
-        let n = came(line, junction, heads, lines, k, buffer, room, r.held);
+        let n = came(line, junction, heads, lines, k, out, buffer, room, r.held);
         k = n;
         if 4_096 < k.at {
             break;
@@ -157,6 +158,7 @@ fn main() {
         &mut heads,
         &mut lines,
         k,
+        out,
         &mut buffer,
         &mut room,
     );

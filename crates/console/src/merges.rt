@@ -35,12 +35,12 @@ fn merge_lists(s: &[u8], lent: &mut [u8; 32768], places: usize) -> MergeEnd
 }
 
 // The answer to a line that asks for a merge, whose scores stand from a place on.
-pub fn merge(buffer: &mut [u8; 4096], at: usize, s: &[u8], list: usize, places: usize) -> usize
+pub fn merge(out: Out, buffer: &mut [u8; 4096], at: usize, s: &[u8], list: usize, places: usize) -> usize
     requires { (list ≤ length s.now) × (places ≤ 32768) }
 {
     let mut lent = [77u8; 32768];
     let r = merge_lists(&s[list..], &mut lent, places);
-    let a = short(buffer, at, r.refusal);
-    let b = number(buffer, a, r.length as u64);
-    file(buffer, b, &lent, places)
+    let a = short(out, buffer, at, r.refusal);
+    let b = number(out, buffer, a, r.length as u64);
+    file(out, buffer, b, &lent, places)
 }

@@ -24,13 +24,13 @@ fn performed(s: &[u8], list: usize, output: &mut [i32; 32768], places: usize) ->
 }
 
 // The answer to a line that asks for a run.
-pub fn run(buffer: &mut [u8; 4096], at: usize, s: &[u8], list: usize, places: usize) -> usize
+pub fn run(out: Out, buffer: &mut [u8; 4096], at: usize, s: &[u8], list: usize, places: usize) -> usize
     requires { (list ≤ length s.now) × (places ≤ 32768) }
 {
     let mut output = [77i32; 32768];
     let r = performed(s, list, &mut output, places);
-    let a = short(buffer, at, r.refusal);
-    let b = number(buffer, a, r.place as u64);
-    let c = number(buffer, b, r.written as u64);
-    samples(buffer, c, &output, places)
+    let a = short(out, buffer, at, r.refusal);
+    let b = number(out, buffer, a, r.place as u64);
+    let c = number(out, buffer, b, r.written as u64);
+    samples(out, buffer, c, &output, places)
 }

@@ -9,11 +9,11 @@ use words::pieces::{ahead, piece};
 use words::word;
 
 // The name that a line starts with.
-fn name(buffer: &mut [u8; 4096], at: usize, s: &[u8]) -> usize {
+fn name(out: Out, buffer: &mut [u8; 4096], at: usize, s: &[u8]) -> usize {
     let w = word(s);
     let a = w.start;
     let e = w.end;
-    bytes(buffer, at, &s[a..e])
+    bytes(out, buffer, at, &s[a..e])
 }
 
 // The place of a kind's row in the table.
@@ -25,29 +25,29 @@ fn place(kind: u32) -> usize {
 }
 
 // `string`, its number, and the name of a call on it.
-fn string_name(buffer: &mut [u8; 4096], at: usize, string: u32, kind: u32) -> usize {
-    let a = bytes(buffer, at, b"string");
-    let b = short(buffer, a, string);
-    let c = bytes(buffer, b, b" ");
-    bytes(buffer, c, ahead(piece(&TABLE, b'\n', place(kind)), b' '))
+fn string_name(out: Out, buffer: &mut [u8; 4096], at: usize, string: u32, kind: u32) -> usize {
+    let a = bytes(out, buffer, at, b"string");
+    let b = short(out, buffer, a, string);
+    let c = bytes(out, buffer, b, b" ");
+    bytes(out, buffer, c, ahead(piece(&TABLE, b'\n', place(kind)), b' '))
 }
 
 // The name of a line that is right; `error`, the number and what was expected of one that is wrong.
-pub fn start(buffer: &mut [u8; 4096], at: usize, s: &[u8], index: u64, l: Request) -> usize {
+pub fn start(out: Out, buffer: &mut [u8; 4096], at: usize, s: &[u8], index: u64, l: Request) -> usize {
     if l.kind == ERROR {
-        return error(buffer, at, s, index);
+        return error(out, buffer, at, s, index);
     }
     if l.on_string {
-        return string_name(buffer, at, l.string, l.kind);
+        return string_name(out, buffer, at, l.string, l.kind);
     }
-    name(buffer, at, s)
+    name(out, buffer, at, s)
 }
 
 // What a call returned: its number, and the count of an instant change.
-pub fn returned(buffer: &mut [u8; 4096], at: usize, kind: u32, refusal: u32, count: u32) -> usize {
-    let a = short(buffer, at, refusal);
+pub fn returned(out: Out, buffer: &mut [u8; 4096], at: usize, kind: u32, refusal: u32, count: u32) -> usize {
+    let a = short(out, buffer, at, refusal);
     if kind == INSTANT {
-        return short(buffer, a, count);
+        return short(out, buffer, a, count);
     }
     a
 }

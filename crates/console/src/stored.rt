@@ -22,7 +22,7 @@ pub fn store_first(line: &[i32; 2112], head: Head, room: &mut [u8], places: usiz
 pub fn store(
     line: &[i32; 2112],
     head: Head,
-    buffer: &mut [u8; 4096],
+    out: Out, buffer: &mut [u8; 4096],
     at: usize,
     places: usize,
 ) -> usize
@@ -30,9 +30,9 @@ pub fn store(
 {
     let mut lent = [77u8; 32768];
     let r = store_first(line, head, &mut lent, places);
-    let a = short(buffer, at, r.refusal);
-    let b = number(buffer, a, r.length as u64);
-    file(buffer, b, &lent, places)
+    let a = short(out, buffer, at, r.refusal);
+    let b = number(out, buffer, a, r.length as u64);
+    file(out, buffer, b, &lent, places)
 }
 
 // Loads the first bytes in place of the voice.
@@ -63,12 +63,12 @@ fn panel_first(given: &[u8; 349526], count: usize) -> Shown
 }
 
 // The answer to a line that asks for the panel.
-pub fn panel(buffer: &mut [u8; 4096], at: usize, s: &[u8], list: usize) -> usize
+pub fn panel(out: Out, buffer: &mut [u8; 4096], at: usize, s: &[u8], list: usize) -> usize
     requires { list ≤ length s.now }
 {
     let mut given = bytes_room();
     let r = bytes(&s[list..], &mut given);
     let p = panel_first(&given, r.count);
-    let a = pair(buffer, at, p.refusal, p.length);
-    pair(buffer, a, p.delay, p.loss)
+    let a = pair(out, buffer, at, p.refusal, p.length);
+    pair(out, buffer, a, p.delay, p.loss)
 }

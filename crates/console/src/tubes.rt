@@ -36,7 +36,7 @@ fn move_junction(junction: &mut [u32; 16], d: u32) -> u32
 }
 
 // One sample from each side, and what goes to the right and to the left.
-fn sample(junction: &mut [u32; 16], buffer: &mut [u8; 4096], at: usize, x: Two) -> usize
+fn sample(junction: &mut [u32; 16], out: Out, buffer: &mut [u8; 4096], at: usize, x: Two) -> usize
     requires { Joined (from_words junction.old) }
     ensures { Joined (from_words junction.new) }
 {
@@ -45,15 +45,15 @@ fn sample(junction: &mut [u32; 16], buffer: &mut [u8; 4096], at: usize, x: Two) 
     let k = s.junction;
     let w = pack(k);
     *junction = w;
-    let a = short(buffer, at, s.refusal);
-    let b = short_signed(buffer, a, s.right.n);
-    short_signed(buffer, b, s.left.n)
+    let a = short(out, buffer, at, s.refusal);
+    let b = short_signed(out, buffer, a, s.right.n);
+    short_signed(out, buffer, b, s.left.n)
 }
 
 // The answer to a line that asks for a call on the junction.
 pub fn call_junction(
     junction: &mut [u32; 16],
-    buffer: &mut [u8; 4096],
+    out: Out, buffer: &mut [u8; 4096],
     at: usize,
     s: &[u8],
     l: Request,
@@ -63,12 +63,12 @@ pub fn call_junction(
 {
     if l.kind == JUNCTION {
         let r = open_junction(junction, l.a, l.b, l.c, l.d);
-        return short(buffer, at, r);
+        return short(out, buffer, at, r);
     }
     if l.kind == MOVE {
         let r = move_junction(junction, l.a);
-        return short(buffer, at, r);
+        return short(out, buffer, at, r);
     }
     let list = l.list;
-    sample(junction, buffer, at, two_samples(&s[list..]))
+    sample(junction, out, buffer, at, two_samples(&s[list..]))
 }

@@ -31,7 +31,7 @@ fn call_kept(
     junction: &mut [u32; 16],
     heads: &mut [[u32; 27]; 6],
     lines: &mut [[i32; 2112]; 6],
-    buffer: &mut [u8; 4096],
+    out: Out, buffer: &mut [u8; 4096],
     at: usize,
     s: &[u8],
     l: Request,
@@ -45,22 +45,22 @@ fn call_kept(
     if l.on_string {
         return Turn {
             head: head,
-            at: turn_string(heads, lines, buffer, at, s, l),
+            at: turn_string(heads, lines, out, buffer, at, s, l),
         };
     }
     if l.kind == MIX {
         return Turn {
             head: head,
-            at: turn_mix(heads, lines, buffer, at, s, l),
+            at: turn_mix(heads, lines, out, buffer, at, s, l),
         };
     }
     if on_junction(l.kind) {
         return Turn {
             head: head,
-            at: call_junction(junction, buffer, at, s, l),
+            at: call_junction(junction, out, buffer, at, s, l),
         };
     }
-    turned(line, head, buffer, at, s, l)
+    turned(line, head, out, buffer, at, s, l)
 }
 
 // Reads a line, which has no line feed, up to a comment, makes its call and answers it.
@@ -70,7 +70,7 @@ pub fn answered(
     junction: &mut [u32; 16],
     heads: &mut [[u32; 27]; 6],
     lines: &mut [[i32; 2112]; 6],
-    buffer: &mut [u8; 4096],
+    out: Out, buffer: &mut [u8; 4096],
     at: usize,
     s: &[u8],
     index: u64,
@@ -86,11 +86,11 @@ pub fn answered(
     if l.kind == EMPTY {
         return Turn { head: head, at: at };
     }
-    let a = start(buffer, at, t, index, l);
-    let r = call_kept(line, head, junction, heads, lines, buffer, a, t, l);
+    let a = start(out, buffer, at, t, index, l);
+    let r = call_kept(line, head, junction, heads, lines, out, buffer, a, t, l);
     let h = r.head;
     Turn {
         head: h,
-        at: bytes(buffer, r.at, b"\n"),
+        at: bytes(out, buffer, r.at, b"\n"),
     }
 }

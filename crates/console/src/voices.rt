@@ -27,7 +27,7 @@ pub struct Turn {
 fn called(
     line: &mut [i32; 2112],
     head: Head,
-    buffer: &mut [u8; 4096],
+    out: Out, buffer: &mut [u8; 4096],
     at: usize,
     l: Request,
 ) -> Turn
@@ -38,7 +38,7 @@ fn called(
     let h = c.head;
     Turn {
         head: h,
-        at: returned(buffer, at, l.kind, c.refusal, c.count),
+        at: returned(out, buffer, at, l.kind, c.refusal, c.count),
     }
 }
 
@@ -46,7 +46,7 @@ fn called(
 fn rendered(
     line: &mut [i32; 2112],
     head: Head,
-    buffer: &mut [u8; 4096],
+    out: Out, buffer: &mut [u8; 4096],
     at: usize,
     s: &[u8],
     l: Request,
@@ -57,15 +57,15 @@ fn rendered(
     let mut output = [77i32; 32768];
     let c = blocked(line, head, s, l.list, &mut output, l.places);
     let h = c.head;
-    let a = short(buffer, at, c.refusal);
+    let a = short(out, buffer, at, c.refusal);
     Turn {
         head: h,
-        at: samples(buffer, a, &output, l.places),
+        at: samples(out, buffer, a, &output, l.places),
     }
 }
 
 // A stored voice in place of the one that was kept, by a refusal too.
-fn reload(line: &mut [i32; 2112], buffer: &mut [u8; 4096], at: usize, s: &[u8], l: Request) -> Turn
+fn reload(line: &mut [i32; 2112], out: Out, buffer: &mut [u8; 4096], at: usize, s: &[u8], l: Request) -> Turn
     requires { InLine (length s.now) l }
     ensures { Valid result.head line.new }
 {
@@ -73,7 +73,7 @@ fn reload(line: &mut [i32; 2112], buffer: &mut [u8; 4096], at: usize, s: &[u8], 
     let h = c.head;
     Turn {
         head: h,
-        at: short(buffer, at, c.refusal),
+        at: short(out, buffer, at, c.refusal),
     }
 }
 
@@ -81,7 +81,7 @@ fn reload(line: &mut [i32; 2112], buffer: &mut [u8; 4096], at: usize, s: &[u8], 
 fn told(
     line: &[i32; 2112],
     head: Head,
-    buffer: &mut [u8; 4096],
+    out: Out, buffer: &mut [u8; 4096],
     at: usize,
     s: &[u8],
     l: Request,
@@ -89,31 +89,31 @@ fn told(
     requires { Valid head line.now × InLine (length s.now) l }
 {
     if l.kind == STATE {
-        return state(buffer, at, head);
+        return state(out, buffer, at, head);
     }
     if l.kind == LINE {
-        return past(buffer, at, line, head.at, l.places);
+        return past(out, buffer, at, line, head.at, l.places);
     }
     if l.kind == STORE {
-        return store(line, head, buffer, at, l.places);
+        return store(line, head, out, buffer, at, l.places);
     }
     if l.kind == PANEL {
-        return panel(buffer, at, s, l.list);
+        return panel(out, buffer, at, s, l.list);
     }
     if l.kind == RUN {
-        return run(buffer, at, s, l.list, l.places);
+        return run(out, buffer, at, s, l.list, l.places);
     }
     if l.kind == MERGE {
-        return merge(buffer, at, s, l.list, l.places);
+        return merge(out, buffer, at, s, l.list, l.places);
     }
-    asked(buffer, at, s, l)
+    asked(out, buffer, at, s, l)
 }
 
 // Makes the call of a line that is not empty on the voice, and answers it.
 pub fn turned(
     line: &mut [i32; 2112],
     head: Head,
-    buffer: &mut [u8; 4096],
+    out: Out, buffer: &mut [u8; 4096],
     at: usize,
     s: &[u8],
     l: Request,
@@ -122,16 +122,16 @@ pub fn turned(
     ensures { Valid result.head line.new }
 {
     if l.kind == LOAD {
-        return reload(line, buffer, at, s, l);
+        return reload(line, out, buffer, at, s, l);
     }
     if l.kind < BLOCK {
-        return called(line, head, buffer, at, l);
+        return called(line, head, out, buffer, at, l);
     }
     if l.kind == BLOCK {
-        return rendered(line, head, buffer, at, s, l);
+        return rendered(line, head, out, buffer, at, s, l);
     }
     Turn {
         head: head,
-        at: told(line, head, buffer, at, s, l),
+        at: told(line, head, out, buffer, at, s, l),
     }
 }

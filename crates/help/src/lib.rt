@@ -5,7 +5,7 @@
 ghost use Rattle.std.specs.Prelude.{◌≡◌, ◌-◌, ◌≤◌};
 ghost use Rattle.help.specs.Said.{Said, Wrong, Error, Listed, Rows, up_to};
 
-use print::{bytes, number};
+use print::{Out, bytes, number};
 use request::kinds::{ERROR, OPEN, named};
 use request::table::TABLE;
 use words::pieces::piece;
@@ -22,26 +22,26 @@ fn place(kind: u32) -> usize
 }
 
 // What a kind's call takes, behind a text.
-fn said(buffer: &mut [u8; 4096], at: usize, text: &[u8], kind: u32) -> usize
+fn said(out: Out, buffer: &mut [u8; 4096], at: usize, text: &[u8], kind: u32) -> usize
     ensures upper_bound { result ≤ 4097 }
     ensures said { Said text.now kind buffer.old at buffer.new result }
 {
-    let a = bytes(buffer, at, text);
-    bytes(buffer, a, piece(&TABLE, b'\n', place(kind)))
+    let a = bytes(out, buffer, at, text);
+    bytes(out, buffer, a, piece(&TABLE, b'\n', place(kind)))
 }
 
 // The answer to a wrong line: `error`, its number, and what its call takes.
-pub fn wrong(buffer: &mut [u8; 4096], at: usize, index: u64, kind: u32) -> usize
+pub fn wrong(out: Out, buffer: &mut [u8; 4096], at: usize, index: u64, kind: u32) -> usize
     ensures upper_bound { result ≤ 4097 }
     ensures wrong { Wrong index kind buffer.old at buffer.new result }
 {
-    let a = bytes(buffer, at, b"error");
-    let b = number(buffer, a, index);
-    said(buffer, b, b" ", kind)
+    let a = bytes(out, buffer, at, b"error");
+    let b = number(out, buffer, a, index);
+    said(out, buffer, b, b" ", kind)
 }
 
 // The answer to a wrong line, by the name that it starts with.
-pub fn error(buffer: &mut [u8; 4096], at: usize, s: &[u8], index: u64) -> usize
+pub fn error(out: Out, buffer: &mut [u8; 4096], at: usize, s: &[u8], index: u64) -> usize
     ensures upper_bound { result ≤ 4097 }
     ensures error { Error s.now index buffer.old at buffer.new result }
 {
@@ -49,29 +49,29 @@ pub fn error(buffer: &mut [u8; 4096], at: usize, s: &[u8], index: u64) -> usize
     let a = w.start;
     let e = w.end;
     let kind = named(&s[a..e]);
-    wrong(buffer, at, index, kind)
+    wrong(out, buffer, at, index, kind)
 }
 
 // One of the calls, among others.
-fn listed(buffer: &mut [u8; 4096], at: usize, kind: u32) -> usize
+fn listed(out: Out, buffer: &mut [u8; 4096], at: usize, kind: u32) -> usize
     ensures upper_bound { result ≤ 4097 }
     ensures listed { Listed kind buffer.old at buffer.new result }
 {
     if kind == OPEN {
-        return said(buffer, at, b" ", kind);
+        return said(out, buffer, at, b" ", kind);
     }
-    said(buffer, at, b"; ", kind)
+    said(out, buffer, at, b"; ", kind)
 }
 
 // What each of the calls takes, one after the other.
-pub fn help(buffer: &mut [u8; 4096], at: usize) -> usize
+pub fn help(out: Out, buffer: &mut [u8; 4096], at: usize) -> usize
     ensures upper_bound { at ≤ 4097 → result ≤ 4097 }
     ensures rows { Rows (up_to 31) buffer.old at buffer.new result }
 {
     let mut a = at;
     let mut kind = 1;
     while kind < ERROR {
-        a = listed(buffer, a, kind);
+        a = listed(out, buffer, a, kind);
         kind = kind + 1;
     }
     a

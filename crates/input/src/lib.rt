@@ -5,28 +5,38 @@
 ghost use Rattle.std.specs.Prelude.{◌≡◌, ◌+◌, ◌≤◌, length, drop};
 ghost use Rattle.std.proofs.Math.Seq.{paste};
 
-use libc::STDIN_FILENO;
+use std::io::{Read, Stdin};
 
-// How many bytes the room holds, as many as before at the end of the input, and whether the read failed.
+// How many bytes the room holds, as many as before at the end of the input, whether the read failed, and the
+// system's number of the error where it did.
 #[derive(Clone, Copy)]
 pub struct Came {
     pub held: usize,
     pub failed: bool,
+    pub code: i32,
 }
 
 // One read into the part that is left of a room.
-fn part(part: &mut [u8]) -> Came
+fn part(from: Stdin, part: &mut [u8]) -> Came
     ensures { result.held ≤ length part.new }
 {
-    let got = libc::read(STDIN_FILENO, part);
-    Came {
-        held: io::count(got, part),
-        failed: got < 0,
+    let mut input = from;
+    match input.read(part) {
+        Ok(n) => Came {
+            held: n,
+            failed: false,
+            code: 0,
+        },
+        Err(e) => Came {
+            held: 0,
+            failed: true,
+            code: e.raw_os_error().unwrap_or(0),
+        },
     }
 }
 
 // One read into a room that holds some bytes.
-pub fn more(room: &mut [u8], held: usize) -> Came
+pub fn more(from: Stdin, room: &mut [u8], held: usize) -> Came
     ensures { result.held ≤ length room.old }
 {
     let size = room.len();
@@ -34,22 +44,24 @@ pub fn more(room: &mut [u8], held: usize) -> Came
         return Came {
             held: size,
             failed: false,
+            code: 0,
         };
     }
-    let r = part(&mut room[held..]);
+    let r = part(from, &mut room[held..]);
     Came {
         held: held + r.held,
         failed: r.failed,
+        code: r.code,
     }
 }
 
 // Reads until the room is full, the input ends or a read fails.
-pub fn full(room: &mut [u8]) -> Came
+pub fn full(from: Stdin, room: &mut [u8]) -> Came
     ensures { result.held ≤ length room.old }
 {
     let mut held = 0;
     while held < room.len() {
-        let r = more(room, held);
+        let r = more(from, room, held);
         if r.held <= held {
             return r;
         }
@@ -58,6 +70,7 @@ pub fn full(room: &mut [u8]) -> Came
     Came {
         held: held,
         failed: false,
+        code: 0,
     }
 }
 

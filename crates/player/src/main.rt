@@ -10,7 +10,7 @@ use print::{bytes, flush, line, number};
 use score::Played;
 
 // The first samples of an output, so many as were written, each on a line.
-fn samples(buffer: &mut [u8; 4096], output: &[i32; 16384], written: usize) -> usize {
+fn samples(out: Out, buffer: &mut [u8; 4096], output: &[i32; 16384], written: usize) -> usize {
     let s: &[i32] = output;
     let mut at = 0;
     let mut i = 0;
@@ -18,27 +18,27 @@ fn samples(buffer: &mut [u8; 4096], output: &[i32; 16384], written: usize) -> us
         if i == written {
             return at;
         }
-        at = line(buffer, at, samples::read(s, i));
+        at = line(out, buffer, at, samples::read(s, i));
         i = i + 1;
     }
     at
 }
 
 // The last line: `end`, number, place, samples.
-fn end(buffer: &mut [u8; 4096], at: usize, r: Played) -> usize {
-    let a = bytes(buffer, at, b"end");
-    let b = number(buffer, a, r.refusal as u64);
-    let c = number(buffer, b, r.place as u64);
-    let d = number(buffer, c, r.written as u64);
-    bytes(buffer, d, b"\n")
+fn end(out: Out, buffer: &mut [u8; 4096], at: usize, r: Played) -> usize {
+    let a = bytes(out, buffer, at, b"end");
+    let b = number(out, buffer, a, r.refusal as u64);
+    let c = number(out, buffer, b, r.place as u64);
+    let d = number(out, buffer, c, r.written as u64);
+    bytes(out, buffer, d, b"\n")
 }
 
 // Prints what a run returned and wrote.
 fn told(output: &[i32; 16384], r: Played) {
     let mut buffer = [0u8; 4096];
-    let a = samples(&mut buffer, output, r.written);
-    let b = end(&mut buffer, a, r);
-    if 4_096 < flush(&buffer, b) {
+    let a = samples(out, &mut buffer, output, r.written);
+    let b = end(out, &mut buffer, a, r);
+    if 4_096 < flush(out, &buffer, b) {
         os::fail(b"player: standard output");
     }
 }

@@ -6,5 +6,5 @@ use Rattle.help.proofs.error.Goals as goal
 
 pub returns : goal.returns
 returns c =
-    let n = c.before.before in
-    (c.wrong.ensures.0, of n.word-w.ensures n.named-kind.ensures c.wrong.ensures.1)
+    let w = c.wrong.ensures in
+    record { upper_bound = w.upper_bound; error = of c.word-w.ensures c.named-kind.ensures w.wrong }

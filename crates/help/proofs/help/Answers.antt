@@ -17,12 +17,12 @@ loop-kind-preserved c =
     let l = c.loop-kind in (
       omega arith,
       omega arith,
-      λ h. c.listed-a.ensures.0,
-      rows_more l.kind l.invariant.0 l.invariant.3 c.listed-a.ensures.1,
+      λ h. c.listed-a.ensures.upper_bound,
+      rows_more l.kind l.invariant.0 l.invariant.3 c.listed-a.ensures.listed,
     )
 
 pub returns : goal.returns
 returns c =
     let l = c.loop-kind in
     let e : l.kind ≡ 32 = omega arith in
-    (l.invariant.2, rows_at e l.invariant.3)
+    record { upper_bound = l.invariant.2; rows = rows_at e l.invariant.3 }

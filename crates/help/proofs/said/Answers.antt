@@ -12,5 +12,5 @@ use Rattle.help.proofs.said.Goals as goal
 pub returns : goal.returns
 returns c =
     let e = c.piece.ensures ∙ ap (λ (n : ℕ). piece 10 n table) c.place.ensures in
-    let b = c.bytes-a in
-    (c.bytes.ensures.0, more b.ensures.1 (more (same_text e c.bytes.ensures.1) none))
+    let b = c.bytes.ensures in
+    record { upper_bound = b.upper_bound; said = more c.bytes-a.ensures.printed (more (same_text e b.printed) none) }

@@ -6,6 +6,8 @@ use Rattle.help.proofs.wrong.Goals as goal
 
 pub returns : goal.returns
 returns c =
-    let n = c.before.before.before in
-    let e = n.bytes-a.ensures.1 in
-    (c.said.ensures.0, error e n.number-b.ensures.1 c.said.ensures.1)
+    let s = c.said.ensures in
+    record {
+      upper_bound = s.upper_bound;
+      wrong = error c.bytes-a.ensures.printed c.number-b.ensures.number s.said;
+    }

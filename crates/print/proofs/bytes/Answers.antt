@@ -8,4 +8,7 @@ use Rattle.print.proofs.bytes.Goals as goal
 pub returns : goal.returns
 returns c =
     let m = c.room-a.ensures in
-    (wrote-within c.bytes.ensures 4097 m.0 (search rules), printed m.1 c.bytes.ensures)
+    record {
+      upper_bound = wrote-within c.bytes.ensures 4097 m.upper_bound (search rules);
+      printed = printed m.made_room c.bytes.ensures;
+    }

@@ -18,11 +18,12 @@ loop-i-init c = (search rules, search rules, λ h. h, none)
 pub returns-then-i-count : goal.returns-then-i-count
 returns-then-i-count c =
     let l = c.loop-i in
-    let a = c.args in (
-      l.invariant.2,
-      subst (λ (k : ℕ). Hexes (take k a.file.now) a.buffer.now a.at l.buffer l.a)
-          c.if-i-count.true l.invariant.3,
-    )
+    let a = c.args in
+    record {
+      upper_bound = l.invariant.2;
+      hexes = subst (λ (k : ℕ). Hexes (take k a.file.now) a.buffer.now a.at l.buffer l.a)
+          c.if-i-count.true l.invariant.3;
+    }
 
 pub loop-i-preserved : goal.loop-i-preserved
 loop-i-preserved c =
@@ -34,9 +35,9 @@ loop-i-preserved c =
     = rw add-one (take-suc o l.i 0 h) in (
       search rules,
       search rules,
-      λ h. c.hex-a.ensures.0,
-      subst (λ (xs : List ℕ). Hexes xs a.buffer.now a.at c.hex-a.new.0 c.hex-a.result)
-          (sym e) (another (get_or o l.i 0) l.invariant.3 c.hex-a.ensures.1),
+      λ h. c.hex-a.ensures.upper_bound,
+      subst (λ (xs : List ℕ). Hexes xs a.buffer.now a.at c.hex-a.new.buffer c.hex-a.result)
+          (sym e) (another (get_or o l.i 0) l.invariant.3 c.hex-a.ensures.hex),
     )
 
 pub returns : goal.returns
@@ -45,7 +46,8 @@ returns c =
     let a = c.args in
     let o = a.file.now in
     let e : take l.i o ≡ take a.count o
-    = take_all l.i o (omega arith) ∙ sym (take_all a.count o (omega arith)) in (
-      l.invariant.2,
-      subst (λ (xs : List ℕ). Hexes xs a.buffer.now a.at l.buffer l.a) e l.invariant.3,
-    )
+    = take_all l.i o (omega arith) ∙ sym (take_all a.count o (omega arith)) in
+    record {
+      upper_bound = l.invariant.2;
+      hexes = subst (λ (xs : List ℕ). Hexes xs a.buffer.now a.at l.buffer l.a) e l.invariant.3;
+    }

@@ -9,4 +9,7 @@ pub returns : goal.returns
 returns c =
     let b = c.bytes-a.ensures in
     let n = c.args.b in
-    (wrote-within c.hex.ensures 4097 b.0 (search rules), hexed n (search rules) b.1 c.hex.ensures)
+    record {
+      upper_bound = wrote-within c.hex.ensures 4097 b.upper_bound (search rules);
+      hex = hexed n (search rules) b.printed c.hex.ensures;
+    }

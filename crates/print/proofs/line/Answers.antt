@@ -7,11 +7,10 @@ use Rattle.print.proofs.line.Goals as goal
 
 pub returns : goal.returns
 returns c =
-    let w = c.before.before.before in
-    let s = w.before.before.before.before in
-    let m = w.room-a.ensures in
-    let h = signed-within s.args.x.n s.args.buffer.now w.signed-b.new.0 4097
-    w.signed-b.ensures m.0 (search rules) in (
-      wrote-within c.bytes.ensures 4097 h (search rules),
-      lined s.args.x.n (search rules) m.1 w.signed-b.ensures c.bytes.ensures,
-    )
+    let m = c.room-a.ensures in
+    let h = signed-within c.args.x.n c.args.buffer.now c.signed-b.new.buffer 4097
+    c.signed-b.ensures m.upper_bound (search rules) in
+    record {
+      upper_bound = wrote-within c.bytes.ensures 4097 h (search rules);
+      line = lined c.args.x.n (search rules) m.made_room c.signed-b.ensures c.bytes.ensures;
+    }

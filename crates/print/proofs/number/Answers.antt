@@ -7,7 +7,8 @@ use Rattle.print.proofs.number.Goals as goal
 
 pub returns : goal.returns
 returns c =
-    let b = c.bytes-a.ensures in (
-      spelled_within 4097 c.number.ensures b.0 (search rules),
-      numbered (search rules) b.1 c.number.ensures,
-    )
+    let b = c.bytes-a.ensures in
+    record {
+      upper_bound = spelled_within 4097 c.number.ensures b.upper_bound (search rules);
+      number = numbered (search rules) b.printed c.number.ensures;
+    }

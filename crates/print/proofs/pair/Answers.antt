@@ -7,4 +7,4 @@ use Rattle.print.proofs.pair.Goals as goal
 pub returns : goal.returns
 returns c =
     let s = c.short.ensures in
-    (s.0, more c.short-a.ensures.1 (more s.1 none))
+    record { upper_bound = s.upper_bound; numbers = more c.short-a.ensures.number (more s.number none) }

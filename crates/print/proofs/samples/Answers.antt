@@ -19,11 +19,12 @@ loop-i-init c = (search rules, search rules, λ h. h, none)
 pub returns-then-i-count : goal.returns-then-i-count
 returns-then-i-count c =
     let l = c.loop-i in
-    let a = c.args in (
-      l.invariant.2,
-      subst (λ (k : ℕ). Signeds (take k a.output.now) a.buffer.now a.at l.buffer l.a)
-          c.if-i-count.true l.invariant.3,
-    )
+    let a = c.args in
+    record {
+      upper_bound = l.invariant.2;
+      signeds = subst (λ (k : ℕ). Signeds (take k a.output.now) a.buffer.now a.at l.buffer l.a)
+          c.if-i-count.true l.invariant.3;
+    }
 
 pub loop-i-preserved : goal.loop-i-preserved
 loop-i-preserved c =
@@ -33,12 +34,12 @@ loop-i-preserved c =
     let h : l.i < length o = omega arith in
     let e : take (l.i + 1) o ≡ take l.i o ++ get_or o l.i (pos 0) ∷ []
     = rw add-one (take-suc o l.i (pos 0) h) in
-    let p = subst (λ (x : ℤ). Signed x l.buffer l.a c.signed-a.new.0 c.signed-a.result)
-    c.read.ensures c.signed-a.ensures.1 in (
+    let p = subst (λ (x : ℤ). Signed x l.buffer l.a c.signed-a.new.buffer c.signed-a.result)
+    c.read.ensures c.signed-a.ensures.signed in (
       search rules,
       search rules,
-      λ h. c.signed-a.ensures.0,
-      subst (λ (xs : List ℤ). Signeds xs a.buffer.now a.at c.signed-a.new.0 c.signed-a.result)
+      λ h. c.signed-a.ensures.upper_bound,
+      subst (λ (xs : List ℤ). Signeds xs a.buffer.now a.at c.signed-a.new.buffer c.signed-a.result)
           (sym e) (another (get_or o l.i (pos 0)) l.invariant.3 p),
     )
 
@@ -48,7 +49,8 @@ returns c =
     let a = c.args in
     let o = a.output.now in
     let e : take l.i o ≡ take a.count o
-    = take_all l.i o (omega arith) ∙ sym (take_all a.count o (omega arith)) in (
-      l.invariant.2,
-      subst (λ (xs : List ℤ). Signeds xs a.buffer.now a.at l.buffer l.a) e l.invariant.3,
-    )
+    = take_all l.i o (omega arith) ∙ sym (take_all a.count o (omega arith)) in
+    record {
+      upper_bound = l.invariant.2;
+      signeds = subst (λ (xs : List ℤ). Signeds xs a.buffer.now a.at l.buffer l.a) e l.invariant.3;
+    }

@@ -10,4 +10,7 @@ overflow_cast-x c = rw (to_z-of_z c.ranges.x) (sfits_widen tt c.ranges.x)
 pub returns : goal.returns
 returns c =
     let f = c.ranges.x in
-    (c.signed.ensures.0, rw (to_z-of_z f, to_z-of_z (sfits_widen tt f)) at c.signed.ensures.1)
+    record {
+      upper_bound = c.signed.ensures.upper_bound;
+      signed = rw (to_z-of_z f, to_z-of_z (sfits_widen tt f)) at c.signed.ensures.signed;
+    }

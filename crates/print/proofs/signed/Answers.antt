@@ -9,8 +9,9 @@ pub returns : goal.returns
 returns c =
     let b = c.before.before in
     let x = b.args.x.n in
-    let p = b.bytes-a.ensures in (
-      signed-within x b.bytes-a.new.0 c.signed.new.0 4097 c.signed.ensures p.0
-          (search rules),
-      signed x (search rules) p.1 c.signed.ensures,
-    )
+    let p = b.bytes-a.ensures in
+    record {
+      upper_bound = signed-within x b.bytes-a.new.buffer c.signed.new.buffer 4097 c.signed.ensures
+          p.upper_bound (search rules);
+      signed = signed x (search rules) p.printed c.signed.ensures;
+    }

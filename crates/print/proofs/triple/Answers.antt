@@ -5,4 +5,7 @@ use Rattle.print.specs.Printed.{more}
 use Rattle.print.proofs.triple.Goals as goal
 
 pub returns : goal.returns
-returns c = (c.pair.ensures.0, more c.short-a.ensures.1 c.pair.ensures.1)
+returns c = record {
+  upper_bound = c.pair.ensures.upper_bound;
+  numbers = more c.short-a.ensures.number c.pair.ensures.numbers;
+}
