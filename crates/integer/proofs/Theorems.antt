@@ -1,10 +1,9 @@
 -- Floor and clip from outside: by the laws of proofs/Rounding.antt.
 use mathlib.Core.Path.{◌≡◌, refl}
 use Prim.Native.Nat.{ℕ, ◌≤◌, ◌<◌}
-use native.Mathlib.Omega.{arith}
 use lib.IntN.{ℤ, nat_abs, ◌-ℤ◌}
 use Rattle.integer.specs.Rounding.{floor, M, clip}
-use Rattle.integer.specs.Theorems.{Downward, Clipped, Theorems}
+use Rattle.integer.specs.Theorems.{Downward, Theorems}
 use Rattle.integer.proofs.View.{absv, -v, onev, Zs}
 use Rattle.integer.proofs.Rounding.{floor-low, floor-high, floor-only, clipv, clip_abs, clip-nearest}
 

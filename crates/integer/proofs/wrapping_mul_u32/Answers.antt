@@ -2,7 +2,6 @@
 -- Assumes nothing.
 use native.Mathlib.Omega.{arith}
 use native.Mathlib.Nat.{mul-le-mul, le-pred_of_lt}
-use borrow.Author.Rules.{rules}
 use Rattle.integer.proofs.wrapping_mul_u32.Goals as goal
 
 pub overflow_mul-result : goal.overflow_mul-result

@@ -1,13 +1,9 @@
 -- `octets::put` meets its contract: what is left, laid from the next place on, makes the whole.
 -- Assumes nothing.
-use mathlib.Core.Path.{◌≡◌, refl, sym, ◌∙◌}
-use mathlib.Core.List.{List, [], ◌∷◌}
-use Prim.Native.Nat.{ℕ, ◌+◌, ◌-◌, ◌/◌, ◌%◌, ◌≤◌, ◌<◌}
-use native.Mathlib.Omega.{arith}
-use borrow.Author.Rules.{rules}
-use lib.ListN.{length, set, length-set}
+use mathlib.Core.Path.{◌≡◌}
+use Prim.Native.Nat.{◌+◌, ◌≤◌}
+use lib.ListN.{length}
 use Rattle.octets.specs.Octets.{bytes, laid}
-use Rattle.octets.proofs.Laws.{bytes-step, laid_nil, laid-append, set-laid}
 use Rattle.octets.proofs.put.Given as goal
 
 abbrev pub invariant-loop-k : goal.invariant-loop-k

@@ -1,7 +1,6 @@
 -- `text::positive` meets its contract: the number itself, which fits 32 bits.
 -- Assumes nothing.
 use Prim.Native.Nat.{◌^◌}
-use borrow.Author.Rules.{rules}
 use borrow.Author.Tests.{lt-ltb, le-ltb}
 use lib.Dec.{ltb}
 use lib.IntN.{pos}

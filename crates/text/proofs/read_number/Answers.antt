@@ -3,12 +3,10 @@
 use mathlib.Core.Path.{◌≡◌, refl, sym, ◌∙◌}
 use mathlib.Core.Bool.{true}
 use mathlib.Core.List.{List}
-use Prim.Native.Nat.{ℕ, ◌+◌, ◌*◌, ◌-◌, ◌^◌, ◌≤◌, ◌<◌}
+use Prim.Native.Nat.{ℕ, ◌+◌, ◌*◌, ◌-◌, ◌≤◌, ◌<◌}
 use native.Mathlib.Omega.{arith}
-use borrow.Author.Rules.{rules}
-use borrow.Author.Tests.{not-true, not-false}
 use lib.ListN.{length, drop, get_or}
-use Rattle.text.specs.Numbers.{digit, digits, decimal}
+use Rattle.text.specs.Numbers.{digit, decimal}
 use Rattle.text.proofs.Flags.{first, second}
 use Rattle.text.proofs.Digits.{low, grows, digits_more, decimal-more, unread, empty}
 use Rattle.text.proofs.Digits.{not-digits, too_large, read, digits-end, decimal-end}
@@ -38,58 +36,55 @@ module _ (c : (lts.After-is_digit tie.the-claims reads.Pre reads.Post goal.the-i
   b = get_or word i 0
 
   some : 0 < length word
-  some = omega (arith, c.if-word-eq0.left)
+  some = omega (arith, c.if-word-eq0.false)
 
   inside : i < length word
   inside = c.loop-i-test.true
 
-  abbrev inv : invariant-loop word 0 0 n i
-  inv = c.loop-i.invariant
-
   next : decimal (10 * n + (b - 48)) (drop (i + 1) word) ≡ decimal 0 word
-  next = sym (decimal-more word i inside n) ∙ inv.3
+  next = sym (decimal-more word i inside n) ∙ c.loop-i.invariant.3
 
 pub returns-then-not-is_digit : goal.returns-then-not-is_digit
 returns-then-not-is_digit c =
-    let d = c.before in
-    let e = sym d.is_digit.ensures ∙ not-true _ c.if-not-is_digit.true in
+    let d = c.before.before in
+    let e = sym d.is_digit.ensures ∙ c.if-not-is_digit.true in
     unread (word d)
     (not-digits (word d) (some d)
-    (sym (inv d).2 ∙ digits_more (word d) (i d) (inside d) ∙ second (digit (b d)) _ _ e))
+    (sym d.loop-i.invariant.2 ∙ digits_more (word d) (i d) (inside d) ∙ second (digit (b d)) _ _ e))
 
 -- it is a digit
-module _ (c : goal.Else-not-is_digit) where
+module _ (c : (lts.Else2 tie.the-claims reads.Pre reads.Post goal.the-invariant-loop-i goal.the-decreases-loop-i)) where
   is : digit (b c.before) ≡ true
-  is = sym c.is_digit.ensures ∙ not-false _ c.if-not-is_digit.false
+  is = sym c.is_digit.ensures ∙ c.if-not-is_digit.false
 
   bounds : (48 ≤ b c.before) × (b c.before ≤ 57)
   bounds = low (b c.before) is
 
 pub overflow_mul-n : goal.overflow_mul-n
-overflow_mul-n c = let k = (inv c.before).1 in omega arith
+overflow_mul-n c = let k = c.loop-i.invariant.1 in omega arith
 
 pub overflow_sub-n : goal.overflow_sub-n
-overflow_sub-n c = (bounds c).0
+overflow_sub-n c = (bounds c.before).0
 
 pub overflow_cast-n : goal.overflow_cast-n
-overflow_cast-n c = let h = bounds c in omega arith
+overflow_cast-n c = let h = bounds c.before in omega arith
 
 pub overflow_add-n : goal.overflow_add-n
-overflow_add-n c = omega (arith, bounds c, (inv c.before).1)
+overflow_add-n c = omega (arith, bounds c.before, c.loop-i.invariant.1)
 
 pub returns-then-n-gt4294967295 : goal.returns-then-n-gt4294967295
 returns-then-n-gt4294967295 c =
-    let d = c.before.before in
+    let d = c.before.before.before in
     let m = 10 * n d + (b d - 48) in
     let g = grows (drop (i d + 1) (word d)) m in
     unread (word d) (too_large (word d) (some d) (omega (arith, next d, g, c.if-n-gt4294967295.true)))
 
 pub loop-i-preserved : goal.loop-i-preserved
 loop-i-preserved c =
-    let d = c.before.before in (
+    let d = c.before.before.before in (
       omega (arith, inside d),
       omega (arith, c.if-n-gt4294967295.false),
-      sym (digits_more (word d) (i d) (inside d) ∙ first (digit (b d)) _ _ (is c.before)) ∙ (inv d).2,
+      sym (digits_more (word d) (i d) (inside d) ∙ first (digit (b d)) _ _ (is c.before.before)) ∙ d.loop-i.invariant.2,
       next d,
     )
 

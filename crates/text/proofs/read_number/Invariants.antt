@@ -1,17 +1,9 @@
 -- `text::read_number` meets its contract: the digits from i on, after the number n, spell the word's number.
 -- Assumes nothing.
-use mathlib.Core.Path.{◌≡◌, refl, sym, ◌∙◌}
-use mathlib.Core.Bool.{true}
-use mathlib.Core.List.{List}
-use Prim.Native.Nat.{ℕ, ◌+◌, ◌*◌, ◌-◌, ◌^◌, ◌≤◌, ◌<◌}
-use native.Mathlib.Omega.{arith}
-use borrow.Author.Rules.{rules}
-use borrow.Author.Tests.{not-true, not-false}
-use lib.ListN.{length, drop, get_or}
-use Rattle.text.specs.Numbers.{digit, digits, decimal}
-use Rattle.text.proofs.Flags.{first, second}
-use Rattle.text.proofs.Digits.{low, grows, digits_more, decimal-more, unread, empty}
-use Rattle.text.proofs.Digits.{not-digits, too_large, read, digits-end, decimal-end}
+use mathlib.Core.Path.{◌≡◌}
+use Prim.Native.Nat.{◌-◌, ◌^◌, ◌≤◌, ◌<◌}
+use lib.ListN.{length, drop}
+use Rattle.text.specs.Numbers.{digits, decimal}
 use Rattle.text.proofs.read_number.Given as goal
 
 abbrev pub invariant-loop-i : goal.invariant-loop-i

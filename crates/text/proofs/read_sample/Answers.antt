@@ -6,7 +6,6 @@ use Prim.Native.Nat.{ℕ, ◌-◌}
 use native.Mathlib.Omega.{arith}
 use lib.ListN.{length, drop, length-drop}
 use lib.Seq.{take_all}
-use borrow.Author.Rules.{rules}
 use Rattle.text.specs.declared.Number.{Number}
 use Rattle.text.specs.Numbers.{number_of, negated, kept}
 use Rattle.text.proofs.Signs.{minus, plain, nothing}

@@ -1,11 +1,8 @@
 -- `words::before` meets its contract: none of the bytes passed is the byte.
 -- Assumes nothing.
-use mathlib.Core.Path.{◌≡◌}
-use Prim.Native.Nat.{ℕ, ◌-◌, ◌≤◌, ◌<◌}
 use native.Mathlib.Omega.{arith}
 use borrow.Author.Count.{below_more}
 use borrow.Author.Rules.{rules}
-use lib.ListN.{length, get_or}
 use Rattle.words.proofs.before.Goals as goal
 
 pub loop-i-init : goal.loop-i-init

@@ -1,6 +1,5 @@
 -- `words::word` meets its contract: the blanks, and then what stands before the next.
 -- Assumes nothing.
-use borrow.Author.Rules.{rules}
 use Rattle.words.proofs.Places.{some}
 use Rattle.words.proofs.word.Goals as goal
 

@@ -3,7 +3,6 @@
 use mir.Syntax.{w64}
 use mir.Val.{SFits}
 use mir.Facts.{to_z-of_z}
-use Rattle.integer.specs.Rounding.{floor}
 use Rattle.integer.proofs.Quotient.{floor-shr, floor-fits}
 use Rattle.integer.proofs.arithmetic.floor_q17.Goals as goal
 

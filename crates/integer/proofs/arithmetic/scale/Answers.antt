@@ -1,8 +1,6 @@
 -- `integer::arithmetic::scale` meets its contract: a number that is not below 0 is read as it is.
 -- Assumes nothing.
-use mathlib.Core.Path.{◌≡◌}
 use native.Mathlib.Omega.{arith}
-use borrow.Author.Rules.{rules}
 use mir.Syntax.{w64}
 use mir.ValLaws.{to_z_pos}
 use Rattle.integer.proofs.arithmetic.scale.Goals as goal

@@ -2,7 +2,6 @@
 -- Assumes nothing.
 use mathlib.Core.Path.{◌≡◌, refl}
 use mathlib.Core.Bool.{Bool, true, false, cond, not}
-use borrow.Author.Rules.{rules}
 use lib.Bits.{bit_xor}
 use lib.IntN.{ℤ, pos}
 use lib.Signed.{lt_z}

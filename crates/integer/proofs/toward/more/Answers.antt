@@ -1,6 +1,5 @@
 -- `integer::toward::more` meets its contract: R of a number is a floor on either side of 0 (proofs/Either.antt).
 -- Assumes nothing.
-use borrow.Author.Rules.{rules}
 use mathlib.Core.Path.{◌≡◌, sym, ◌∙◌}
 use lib.IntN.{pos, ◌-ℤ◌}
 use Rattle.integer.specs.Cut.{R}

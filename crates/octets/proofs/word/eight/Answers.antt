@@ -2,7 +2,6 @@
 -- Assumes nothing.
 use native.Mathlib.Omega.{arith}
 use Rattle.octets.proofs.Gathers.{more-at}
-use borrow.Author.Rules.{rules}
 use Rattle.octets.proofs.word.eight.Goals as goal
 
 pub returns : goal.returns

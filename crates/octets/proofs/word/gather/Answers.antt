@@ -1,7 +1,6 @@
 -- `octets::word::gather` meets its contract: no byte is there, some are, or all eight.
 -- Assumes nothing.
 use Rattle.octets.proofs.Gathers.{none-there}
-use borrow.Author.Rules.{rules}
 use Rattle.octets.proofs.word.gather.Goals as goal
 
 pub returns-then-s-start : goal.returns-then-s-start

@@ -3,7 +3,6 @@
 use Prim.Native.Nat.{◌+◌}
 use native.Mathlib.Omega.{arith}
 use Rattle.octets.proofs.Gathers.{more-at, one_at}
-use borrow.Author.Rules.{rules}
 use Rattle.octets.proofs.word.two.Goals as goal
 
 pub returns : goal.returns

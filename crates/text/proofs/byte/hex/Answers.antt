@@ -3,7 +3,6 @@
 use mathlib.Core.Path.{◌≡◌, sym, ◌∙◌}
 use mathlib.Core.Bool.{true, false}
 use native.Mathlib.Omega.{arith}
-use borrow.Author.Rules.{rules}
 use Rattle.text.specs.Numbers.{digit}
 use Rattle.text.proofs.Digits.{low}
 use Rattle.text.proofs.Hex.{decimal_digit, small, past-small, large, past_large, under}

@@ -1,6 +1,5 @@
 -- `text::byte::read_byte` meets its contract: two bytes, each with a value below 16.
 -- Assumes nothing.
-use borrow.Author.Rules.{rules}
 use Rattle.text.proofs.Hex.{spelled, not_low, not-high, not-two}
 use Rattle.text.proofs.byte.read_byte.Goals as goal
 

@@ -3,7 +3,6 @@
 use mathlib.Core.Path.{◌∙◌}
 use Prim.Native.Nat.{◌+◌}
 use Rattle.words.proofs.Cuts.{part-all, past_one, past_end}
-use borrow.Author.Rules.{rules}
 use Rattle.words.proofs.pieces.after.Goals as goal
 
 pub returns-then-e-s : goal.returns-then-e-s

@@ -3,7 +3,6 @@
 use mathlib.Core.Path.{sym}
 use lib.Seq.{length-take-le}
 use Rattle.words.proofs.Cuts.{cut_at}
-use borrow.Author.Rules.{rules}
 use Rattle.words.proofs.pieces.ahead.Goals as goal
 
 pub slice_bounds-result-end : goal.slice_bounds-result-end

@@ -4,7 +4,6 @@ use mathlib.Core.Path.{sym}
 use native.Mathlib.Omega.{arith}
 use lib.Seq.{length-take-le}
 use Rattle.words.proofs.Cuts.{bare-empty, bare-goes, bare-stays}
-use borrow.Author.Rules.{rules}
 use Rattle.words.proofs.pieces.bare.Goals as goal
 
 pub returns-then-n-eq0 : goal.returns-then-n-eq0

@@ -1,9 +1,8 @@
 -- `words::pieces::piece` meets its contract: one piece less is asked for of what is left.
 -- Assumes nothing.
-use mathlib.Core.Path.{◌≡◌, refl, ap, ◌∙◌}
+use mathlib.Core.Path.{refl, ap, ◌∙◌}
 use Prim.Native.Nat.{◌-◌}
 use native.Mathlib.Omega.{arith}
-use borrow.Author.Rules.{rules}
 use Rattle.words.proofs.Cuts.{piece-first, piece-less}
 use Rattle.words.specs.Pieces.{piece}
 use Rattle.words.proofs.pieces.piece.Goals as goal

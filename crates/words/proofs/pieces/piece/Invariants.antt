@@ -1,10 +1,6 @@
 -- `words::pieces::piece` meets its contract: one piece less is asked for of what is left.
 -- Assumes nothing.
-use mathlib.Core.Path.{◌≡◌, refl, ap, ◌∙◌}
-use Prim.Native.Nat.{◌-◌}
-use native.Mathlib.Omega.{arith}
-use borrow.Author.Rules.{rules}
-use Rattle.words.proofs.Cuts.{piece-first, piece-less}
+use mathlib.Core.Path.{◌≡◌}
 use Rattle.words.specs.Pieces.{piece}
 use Rattle.words.proofs.pieces.piece.Given as goal
 
