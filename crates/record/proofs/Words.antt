@@ -1,17 +1,17 @@
 -- specs/Words.antt: each field of a record is 16 bits of a word that is gathered from its bytes.
 -- Assumes nothing.
-use mathlib.Core.Path.{◌≡◌, refl, sym, ap, ◌∙◌}
-use mathlib.Core.List.{List, [], ◌∷◌}
+use mathlib.Core.Path.{◌≡◌, sym, ap, ◌∙◌}
+use mathlib.Core.List.{List, ◌∷◌}
 use Prim.Native.Nat.{ℕ, zero, suc, ◌+◌, ◌*◌, ◌/◌, ◌%◌, ◌^◌, ◌-◌, ◌≤◌, ◌<◌}
 use native.Mathlib.Nat.{div-div-eq-div-mul}
 use native.Mathlib.Omega.{arith}
 use lib.Pow.{pow-add}
-use Rattle.octets.specs.Octets.{gathered, sixteen}
+use Rattle.octets.specs.Octets.{gathered}
 use Rattle.octets.specs.Theorems.{Bytes}
 use Rattle.octets.proofs.Gathers.{cut}
 use Rattle.record.specs.Record.{bit, before, word, map_of, present, field, read, record_number, fields}
 use Rattle.record.proofs.Reading.{taken-fields}
-use Rattle.record.specs.Words.{from, cut_field, cuts, cut_from, cuts_from, FromWords, Words}
+use Rattle.record.specs.Words.{from, cut_field, cuts, cut_from, cuts_from, Words}
 
 -- ---- where a field stands in its word
 -- the word begins at the field or before it, and reaches past it

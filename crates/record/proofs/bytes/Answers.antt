@@ -1,7 +1,6 @@
 -- `record::bytes` meets its contract: the bits 0 to 3, and 4 to 6.
 use native.Mathlib.Omega.{arith}
 use Rattle.record.proofs.Bits.{all-count}
-use borrow.Author.Rules.{rules}
 use Rattle.record.proofs.bytes.Goals as goal
 
 pub overflow_add-result : goal.overflow_add-result

@@ -2,9 +2,8 @@
 use mathlib.Core.Path.{◌≡◌, refl, sym, ◌∙◌}
 use Prim.Native.Nat.{ℕ, ◌+◌, ◌/◌, ◌%◌}
 use native.Mathlib.Omega.{arith}
-use Rattle.record.specs.Record.{bit, without, ill_formed}
+use Rattle.record.specs.Record.{bit, without}
 use Rattle.record.proofs.Bits.{counts, tunings, neither, neither_back, counted_otherwise}
-use borrow.Author.Rules.{rules}
 use borrow.Author.Tests.{eqb-false}
 use Rattle.record.proofs.is_ill_formed.Goals as goal
 

@@ -1,8 +1,6 @@
 -- `record::refused` meets its contract: 14, then 15, then 0.
-use mathlib.Core.Path.{◌∙◌, sym}
 use native.Mathlib.Omega.{arith}
 use Rattle.record.proofs.Reading.{cut_short, bad_map, good_map}
-use borrow.Author.Rules.{rules}
 use Rattle.record.proofs.refused.Goals as goal
 
 pub returns-then-s-eq0 : goal.returns-then-s-eq0

@@ -3,7 +3,6 @@
 use mathlib.Core.Path.{◌≡◌, refl, sym, ◌∙◌}
 use Prim.Native.Nat.{ℕ, zero, suc}
 use Rattle.record.specs.Record.{present}
-use borrow.Author.Rules.{rules}
 use Rattle.record.proofs.cut.field.Goals as goal
 
 absent : {b : ℕ} (w : ℕ) → b ≡ 0 → 0 ≡ present b w

@@ -1,11 +1,10 @@
 -- `record::cut::fill` meets its contract: each field stands in its word after those before it.
-use mathlib.Core.Path.{◌≡◌, refl, ap, ◌∙◌}
+use mathlib.Core.Path.{◌≡◌}
 use Prim.Native.Nat.{ℕ}
 use native.Mathlib.Omega.{arith}
 use Rattle.record.specs.Record.{before}
 use Rattle.record.specs.Words.{cut_from}
 use Rattle.record.proofs.Words.{Left, left-first, left-next, left_fifth, placed, absent}
-use borrow.Author.Rules.{rules}
 use Rattle.record.proofs.cut.fill.Goals as goal
 use Rattle.record.proofs.cut.fill.Lts as lts
 use Rattle.record.proofs.cut.fill.Reads as reads

@@ -1,6 +1,5 @@
 -- `record::cut::plucked` meets its contract: the bits 0 to 3.
 use Rattle.record.proofs.Bits.{low_count}
-use borrow.Author.Rules.{rules}
 use Rattle.record.proofs.cut.plucked.Goals as goal
 
 pub returns : goal.returns

@@ -1,8 +1,6 @@
 -- `record::cut::words_of` meets its contract: whole words by `eight`, others by `gather`.
 use mathlib.Core.Path.{ap, ◌∙◌}
-use native.Mathlib.Omega.{arith}
 use Rattle.octets.specs.Octets.{gathered}
-use borrow.Author.Rules.{rules}
 use Rattle.record.proofs.cut.words_of.Goals as goal
 
 pub returns-then-s-lt17 : goal.returns-then-s-lt17
