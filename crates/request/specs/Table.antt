@@ -1,6 +1,6 @@
 -- What each call takes, as the console says it: the name that a line starts with is the first word of a row.
 -- Definitions alone. Assumes nothing.
-use Rattle.std.specs.Prelude.{◌≡◌, List, ◌++◌, ℕ, ◌+◌, ◌-◌, ◌≤◌, ◌<◌}
+use Rattle.std.specs.Prelude.{◌≡◌, List, ◌++◌, ℕ, ◌-◌, ◌≤◌, ◌<◌}
 use Rattle.words.specs.Pieces.{ascii, cut, piece}
 
 -- a row for each kind, from 1 on; the last two are said of a name that no row has, and of a line that is too long

@@ -3,12 +3,16 @@
 use mathlib.Core.Path.{◌≡◌, ap, ◌∙◌}
 use mathlib.Core.List.{List, map}
 use Prim.Native.Nat.{ℕ, ◌+◌, ◌*◌, ◌<◌}
-use lib.IntN.{pos}
+use lib.IntN.{ℤ, pos}
 use lib.ListN.{get_or, take, drop, get_or-map}
 use lib.Seq.{drop-drop}
 use Rattle.integer.specs.Rounding.{clip}
 use Rattle.octets.specs.Octets.{number, signed, half, loaded}
 use Rattle.octets.proofs.Lists.{loaded_at}
+
+-- what n samples of the file s read as
+abbrev pub all : List ℕ → ℕ → List ℤ
+all s n = map clip (loaded 3 n (drop 44 s))
 
 -- sample i of n
 pub sample-at : (s : List ℕ) (n i : ℕ) → i < n

@@ -1,6 +1,5 @@
 -- `request::kinds::named` meets its contract: the code's table is the one of specs/Table.antt.
 -- Assumes nothing.
-use borrow.Author.Rules.{rules}
 use Rattle.request.proofs.kinds.named.Goals as goal
 
 pub returns : goal.returns

@@ -1,15 +1,14 @@
 -- `request::kinds::place` meets its contract: no row that was passed has the word for its name.
 -- Assumes nothing.
-use mathlib.Core.Path.{◌≡◌, refl, sym, ap, ◌∙◌}
+use mathlib.Core.Path.{◌≡◌, sym, ap, ◌∙◌}
 use mathlib.Core.Bool.{true, false, false≢true}
 use mathlib.Core.List.{List}
-use Prim.Native.Nat.{ℕ, suc, ◌+◌, ◌-◌, ◌≤◌, ◌<◌}
+use Prim.Native.Nat.{ℕ, suc, ◌+◌, ◌-◌, ◌≤◌}
 use native.Mathlib.Omega.{arith}
-use borrow.Author.Rules.{rules}
 use Rattle.words.specs.Pieces.{cut, past, piece}
 use Rattle.words.proofs.Cuts.{piece-first, piece-less}
 use Rattle.words.proofs.Places.{from_more}
-use Rattle.request.specs.Table.{name, Named}
+use Rattle.request.specs.Table.{name}
 use Rattle.request.proofs.kinds.place.Goals as goal
 use Rattle.request.proofs.kinds.place.Lts as lts
 use Rattle.request.proofs.kinds.place.Reads as reads
@@ -66,19 +65,18 @@ returns-then-same c =
     record {
       least = l.invariant.0;
       most = l.invariant.1;
-      here = λ h. same_name c.before c.if-same.true;
+      here = λ h. same_name c.before.before c.if-same.true;
       none = l.invariant.3;
     }
 
 pub loop-k-preserved : goal.loop-k-preserved
 loop-k-preserved c =
-    let s = c.before.before in
-    let l = s.loop-k in
-    let table = s.args.table.now in (
+    let l = c.loop-k in
+    let table = c.args.table.now in (
       omega arith,
       omega arith,
       λ j. ap (piece 10 j) c.after-u.ensures ∙ others table l.t.now l.k l.invariant.0 l.invariant.2 j,
-      from_more _ 1 l.k l.invariant.3 (λ e. other_name s c.if-same.false e),
+      from_more _ 1 l.k l.invariant.3 (other_name c.before.before.before c.if-same.false),
     )
 
 pub returns : goal.returns

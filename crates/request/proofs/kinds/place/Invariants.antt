@@ -1,15 +1,9 @@
 -- `request::kinds::place` meets its contract: no row that was passed has the word for its name.
 -- Assumes nothing.
-use mathlib.Core.Path.{◌≡◌, refl, sym, ap, ◌∙◌}
-use mathlib.Core.Bool.{true, false, false≢true}
-use mathlib.Core.List.{List}
-use Prim.Native.Nat.{ℕ, suc, ◌+◌, ◌-◌, ◌≤◌, ◌<◌}
-use native.Mathlib.Omega.{arith}
-use borrow.Author.Rules.{rules}
-use Rattle.words.specs.Pieces.{cut, past, piece}
-use Rattle.words.proofs.Cuts.{piece-first, piece-less}
-use Rattle.words.proofs.Places.{from_more}
-use Rattle.request.specs.Table.{name, Named}
+use mathlib.Core.Path.{◌≡◌}
+use Prim.Native.Nat.{ℕ, ◌+◌, ◌-◌, ◌≤◌, ◌<◌}
+use Rattle.words.specs.Pieces.{piece}
+use Rattle.request.specs.Table.{name}
 use Rattle.request.proofs.kinds.place.Given as goal
 
 abbrev pub invariant-loop-k : goal.invariant-loop-k

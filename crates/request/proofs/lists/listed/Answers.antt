@@ -1,6 +1,5 @@
 -- `request::lists::listed` meets its contract: where it is false, there is nothing to show.
 use mathlib.Core.Bool.{false≢true}
-use borrow.Author.Rules.{rules}
 use Rattle.request.proofs.lists.listed.Goals as goal
 
 pub returns-else-places : goal.returns-else-places

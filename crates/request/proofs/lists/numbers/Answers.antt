@@ -1,10 +1,7 @@
 -- `request::lists::numbers` meets its contract: each place read is within the text.
 -- Assumes nothing.
-use mathlib.Core.Path.{◌≡◌}
-use Prim.Native.Nat.{◌-◌, ◌≤◌}
 use native.Mathlib.Omega.{arith}
-use borrow.Author.Rules.{rules}
-use lib.ListN.{length, length-set}
+use lib.ListN.{length-set}
 use Rattle.request.proofs.lists.numbers.Goals as goal
 
 pub loop-k-preserved : goal.loop-k-preserved

@@ -1,10 +1,7 @@
 -- `request::lists::samples` meets its contract: at most as many are read as the array has places.
 -- Assumes nothing.
-use mathlib.Core.Path.{◌≡◌}
-use Prim.Native.Nat.{◌-◌, ◌≤◌}
 use native.Mathlib.Omega.{arith}
-use borrow.Author.Rules.{rules}
-use lib.ListN.{length, length-set}
+use lib.ListN.{length-set}
 use Rattle.request.proofs.lists.samples.Goals as goal
 
 pub loop-k-preserved : goal.loop-k-preserved

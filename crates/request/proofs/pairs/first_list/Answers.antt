@@ -1,7 +1,6 @@
 -- `request::pairs::first_list` meets its contract: the word stands within the text.
 use mathlib.Core.Path.{sym}
 use lib.Seq.{length-take-le}
-use borrow.Author.Rules.{rules}
 use Rattle.request.proofs.pairs.first_list.Goals as goal
 
 pub slice_bounds-result-end : goal.slice_bounds-result-end

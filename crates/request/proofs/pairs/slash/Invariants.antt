@@ -1,6 +1,5 @@
 -- `request::pairs::slash` meets its contract: each word ends within the text.
 use Prim.Native.Nat.{◌-◌, ◌≤◌}
-use borrow.Author.Rules.{rules}
 use lib.ListN.{length}
 use Rattle.request.proofs.pairs.slash.Given as goal
 

@@ -12,12 +12,8 @@ use Rattle.integer.proofs.Rounding.{clip_abs}
 use Rattle.samples.proofs.Taken.{Taken, one_more, all-taken}
 use Rattle.octets.specs.Octets.{loaded}
 use Rattle.octets.proofs.Lists.{loaded-length}
-use Rattle.riff.proofs.Samples.{sample-at}
+use Rattle.riff.proofs.Samples.{all, sample-at}
 use Rattle.riff.proofs.data.load.Goals as goal
-
--- what n samples of the file s read as
-abbrev all : List ℕ → ℕ → List ℤ
-all s n = map clip (loaded 3 n (drop 44 s))
 
 all-length : (s : List ℕ) (n : ℕ) → length (all s n) ≡ n
 all-length s n = length-map (loaded 3 n (drop 44 s)) clip ∙ loaded-length 3 n (drop 44 s)
@@ -33,18 +29,15 @@ write-requires c = (omega (arith, c.loop-i-test.true), rw c.sample.ensures (clip
 
 pub loop-i-preserved : goal.loop-i-preserved
 loop-i-preserved c =
-    let w = c.before in
-    let i = w.before.before.before in
-    let l = i.loop-i in
-    let a = i.args in
-    let s = a.file.now in
-    let n = length a.samples.now in
-    let h : l.i < n = omega (arith, i.loop-i-test.true, l.invariant.0) in
-    let y = w.sample.result.n in (
-      w.write.auto.0 ∙ l.invariant.0,
-      rw w.write.ensures
+    let l = c.loop-i in
+    let s = c.args.file.now in
+    let n = length c.args.samples.now in
+    let h : l.i < n = omega (arith, c.loop-i-test.true, l.invariant.0) in
+    let y = c.sample.result.n in (
+      c.write.auto.s ∙ l.invariant.0,
+      rw c.write.ensures
           (one_more (all s n) l.samples l.i l.invariant.1 y (omega (arith, all-length s n))
-          (w.sample.ensures ∙ sym (sample-at s n l.i h))),
+          (c.sample.ensures ∙ sym (sample-at s n l.i h))),
     )
 
 pub returns : goal.returns

@@ -12,7 +12,7 @@ use Rattle.integer.proofs.Rounding.{clip_abs}
 use Rattle.samples.proofs.Taken.{Taken, one_more, all-taken}
 use Rattle.octets.specs.Octets.{loaded}
 use Rattle.octets.proofs.Lists.{loaded-length}
-use Rattle.riff.proofs.Samples.{sample-at}
+use Rattle.riff.proofs.Samples.{all}
 use Rattle.riff.proofs.data.load.Given as goal
 
 abbrev pub invariant-loop-i : goal.invariant-loop-i

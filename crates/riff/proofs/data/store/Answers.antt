@@ -18,33 +18,27 @@ loop-i-init c = (omega arith, refl, refl)
 
 pub bits-requires : goal.bits-requires
 bits-requires c =
-    let l = c.before.before.before in
-    let s = l.before.before in
-    rw c.read.ensures (omega (arith, loud s.args.samples.now l.loop-i.i, s.requires.1))
+    rw c.read.ensures (omega (arith, loud c.args.samples.now c.loop-i.i, c.requires.1))
 
 pub loop-i-preserved : goal.loop-i-preserved
 loop-i-preserved c =
-    let p = c.before.before in
-    let b = p.before in
-    let i = b.before.before.before in
-    let l = i.loop-i in
-    let s = i.before.before.before in
-    let xs = s.args.samples.now in
+    let l = c.loop-i in
+    let xs = c.args.samples.now in
     let x = bytes 3 (bits 3 (get_or xs l.i (pos 0))) in
     let q = stored 3 (drop (l.i + 1) xs) in
     let n = bytes-length 3 (bits 3 (get_or xs l.i (pos 0))) in
     let room : 44 + 3 * l.i + length x ≤ length l.file
-    = omega (arith, n, s.requires.0, i.loop-i-test.true, l.invariant.1) in
+    = omega (arith, n, c.requires.0, c.loop-i-test.true, l.invariant.1) in
     let lay : List ℕ → List ℕ = λ (t : List ℕ). laid l.file (44 + 3 * l.i) t in
-    let e : p.put.new.0 ≡ lay x
-    = p.put.ensures
-    ∙ ap lay (b.bits.ensures 3 refl)
-    ∙ ap (λ (z : ℤ). lay (bytes 3 (bits 3 z))) b.read.ensures in (
-      omega (arith, i.loop-i-test.true),
-      p.put.auto.0 ∙ l.invariant.1,
+    let e : c.put.new.out ≡ lay x
+    = c.put.ensures
+    ∙ ap lay (c.bits.ensures 3 refl)
+    ∙ ap (λ (z : ℤ). lay (bytes 3 (bits 3 z))) c.read.ensures in (
+      omega (arith, c.loop-i-test.true),
+      c.put.auto.out ∙ l.invariant.1,
       ap (λ (d : List ℕ). laid d (44 + 3 * (l.i + 1)) q) e
           ∙ laid_next l.file (44 + 3 * l.i) x room (44 + 3 * (l.i + 1)) q (omega (arith, n))
-          ∙ ap lay (sym (stored-step 3 xs l.i i.loop-i-test.true))
+          ∙ ap lay (sym (stored-step 3 xs l.i c.loop-i-test.true))
           ∙ l.invariant.2,
     )
 
