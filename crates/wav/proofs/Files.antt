@@ -25,7 +25,7 @@ use Rattle.wav.proofs.Flags.{both, joined, same-is, is_same}
 -- ---- the three tests
 pub record Tested (s : List ℕ) : Type 0 where
   pub byte_rate : 3 * rate_of s < 2 ^ 32
-  pub riff_size_lem : riff_size (count_of s) < 2 ^ 32
+  pub riff_size_fits : riff_size (count_of s) < 2 ^ 32
   pub whole : s ≡ file (rate_of s) (held_in s)
 
 pub tested : (s : List ℕ) → is_file s ≡ true → Tested s
@@ -35,7 +35,7 @@ tested s e =
     let q = both {a = ltb (riff_size (count_of s)) (2 ^ 32)} p.1 in
     record {
       byte_rate = ltb-true _ _ p.0;
-      riff_size_lem = ltb-true _ _ q.0;
+      riff_size_fits = ltb-true _ _ q.0;
       whole = same-is s (file (rate_of s) (held_in s)) q.1;
     }
 
@@ -43,7 +43,7 @@ pub is-file : (s : List ℕ) → Tested s → is_file s ≡ true
 unfolding is_file
 is-file s t =
     joined (lt-ltb _ _ t.byte_rate)
-    (joined (lt-ltb _ _ t.riff_size_lem) (ap (same s) (sym t.whole) ∙ is_same s))
+    (joined (lt-ltb _ _ t.riff_size_fits) (ap (same s) (sym t.whole) ∙ is_same s))
 
 -- ---- from outside
 module _ (s : List ℕ) where
@@ -60,7 +60,7 @@ module _ (s : List ℕ) where
         fs = rate_of s;
         xs = held_in s;
         byte_rate = t.byte_rate;
-        riff_size_lem = rw held-length t.riff_size_lem;
+        riff_size_fits = rw held-length t.riff_size_fits;
         numbers = all_fit 3 (omega arith) (count_of s) (drop 44 s) (dropped-bytes 44 s b);
         whole = t.whole;
       }
@@ -70,10 +70,10 @@ module _ (s : List ℕ) where
     rate-held = ap rate_of f.whole ∙ rate-field f.fs f.xs (omega (arith, f.byte_rate))
 
     pub count_held : count_of s ≡ length f.xs
-    count_held = ap count_of f.whole ∙ count-field f.fs f.xs (omega (arith, f.riff_size_lem))
+    count_held = ap count_of f.whole ∙ count-field f.fs f.xs (omega (arith, f.riff_size_fits))
 
     pub numbers-held : held_in s ≡ f.xs
-    numbers-held = ap held_in f.whole ∙ held f.fs f.xs (omega (arith, f.riff_size_lem)) f.numbers
+    numbers-held = ap held_in f.whole ∙ held f.fs f.xs (omega (arith, f.riff_size_fits)) f.numbers
 
     pub long-held : length s ≡ file_size (count_of s)
     long-held = ap length f.whole ∙ file-length f.fs f.xs ∙ ap file_size (sym count_held)
@@ -83,14 +83,14 @@ module _ (s : List ℕ) where
         is-file s
         (record {
           byte_rate = rw rate-held f.byte_rate;
-          riff_size_lem = rw count_held f.riff_size_lem;
+          riff_size_fits = rw count_held f.riff_size_fits;
           whole = rw (rate-held, numbers-held) f.whole;
         })
 
   -- ---- part by part
   pub record Parts : Type 0 where
     pub byte_rate : 3 * rate_of s < 2 ^ 32
-    pub riff_size_lem : riff_size (count_of s) < 2 ^ 32
+    pub riff_size_fits : riff_size (count_of s) < 2 ^ 32
     pub long : length s ≡ file_size (count_of s)
     pub head : take 44 s ≡ header (rate_of s) (count_of s)
     pub zeros : drop (44 + 3 * count_of s) s ≡ replicate (padding (count_of s)) 0
@@ -102,7 +102,7 @@ module _ (s : List ℕ) where
       let xs = held_in s in
       record {
         byte_rate = t.byte_rate;
-        riff_size_lem = t.riff_size_lem;
+        riff_size_fits = t.riff_size_fits;
         long = ap length t.whole ∙ file-length fs xs ∙ ap file_size held-length;
         head = ap (take 44) t.whole ∙ file-head fs xs ∙ ap (header fs) held-length;
         zeros = ap (drop (44 + 3 * count_of s)) t.whole ∙ rw held-length at (file-padding fs xs);
@@ -126,6 +126,6 @@ module _ (s : List ℕ) where
       is-file s
       (record {
         byte_rate = p.byte_rate;
-        riff_size_lem = p.riff_size_lem;
+        riff_size_fits = p.riff_size_fits;
         whole = rw held-length (sym made);
       })

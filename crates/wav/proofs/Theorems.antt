@@ -52,7 +52,7 @@ module _ (fs : ℕ) (xs : List ℤ) where
       fs = fs;
       xs = xs;
       byte_rate = byte_rate;
-      riff_size_lem = size;
+      riff_size_fits = size;
       numbers = all-fits w;
       whole = refl;
     }

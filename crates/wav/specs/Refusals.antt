@@ -26,7 +26,7 @@ pub record IsFile (s : List ℕ) : Type 0 where
   pub fs : ℕ
   pub xs : List ℤ
   pub byte_rate : 3 * fs < 2 ^ 32
-  pub riff_size_lem : riff_size (length xs) < 2 ^ 32
+  pub riff_size_fits : riff_size (length xs) < 2 ^ 32
   pub numbers : AllFit 3 xs
   pub whole : s ≡ file fs xs
 

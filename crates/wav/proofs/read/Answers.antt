@@ -17,69 +17,56 @@ use Rattle.wav.proofs.Files.{long-held}
 use Rattle.wav.proofs.Refusals.{reads}
 use Rattle.wav.proofs.Results.{read_done, read-refused, filled-done, filled-refused}
 use Rattle.wav.proofs.read.Goals as goal
-use Rattle.wav.proofs.read.Lts as lts
-use Rattle.wav.proofs.read.Reads as reads
-use Rattle.wav.proofs.read.Tie as tie
 
-module _ (c : (lts.After-read_number tie.the-claims reads.Pre reads.Post)) where
-  abbrev s : List ℕ
-  s = c.args.file.now
-
-  abbrev old : List ℤ
-  old = c.args.samples.now
-
-  number : c.read_number-refusal.result ≡ reading_number s (length old)
-  number = c.read_number-refusal.ensures
-
--- past the tests
-module _ (c : (lts.Else1 tie.the-claims reads.Pre reads.Post)) where
-  abbrev t : List ℕ
-  t = s c.before
-
-  abbrev into : List ℤ
-  into = old c.before
-
-  zero : reading_number t (length into) ≡ 0
-  zero = sym (number c.before) ∙ c.if-refusal-ne0.false
-
+-- past the tests, where the file t holds n samples
+module _ (t : List ℕ) (into : List ℤ) (n : ℕ) (z : reading_number t (length into) ≡ 0) (e : n ≡ count_of t) where
   met : IsFile t × (Rated (rate_of t) × Room (count_of t) (count_of t) (length into))
-  met = (reads t (length into)).accepted.0 zero
+  met = (reads t (length into)).accepted.0 z
 
--- the part of the slice that is filled
-module _ (c : goal.After-count_of-count) where
-  fits : c.count_of-count.result ≤ length (into c.before)
-  fits = omega (arith, c.count_of-count.ensures.0, (met c.before).1.1.long)
+  -- the part of the slice that is filled
+  fits : n ≤ length into
+  fits = omega (arith, e, met.1.1.long)
 
-  many : length (take c.count_of-count.result (into c.before)) ≡ c.count_of-count.result
-  many = length-take-le c.count_of-count.result (into c.before) fits
+  many : length (take n into) ≡ n
+  many = length-take-le n into fits
 
 pub returns-then-refusal-ne0 : goal.returns-then-refusal-ne0
 returns-then-refusal-ne0 c =
-    let w = c.before in
-    let f : reading_number (s w) (length (old w)) ≡ 0 → ⊥ = λ z. c.if-refusal-ne0.true (number w ∙ z) in
-    (rw (number w) (sym (read-refused (s w) (length (old w)) f)), sym (filled-refused (s w) (old w) f))
+    let s = c.args.file.now in
+    let old = c.args.samples.now in
+    let number = c.read_number-refusal.ensures in
+    let f : reading_number s (length old) ≡ 0 → ⊥ = λ z. c.if-refusal-ne0.true (number ∙ z) in
+    record { value = rw number (sym (read-refused s (length old) f)); samples_after = sym (filled-refused s old f) }
 
 pub slice_bounds-load-end : goal.slice_bounds-load-end
-slice_bounds-load-end c = fits c
+slice_bounds-load-end c =
+    fits c.args.file.now c.args.samples.now _ (sym c.read_number-refusal.ensures ∙ c.if-refusal-ne0.false)
+    c.count_of-count.ensures.0
 
 pub slice_bounds-load-end-2 : goal.slice_bounds-load-end-2
-slice_bounds-load-end-2 c = sym (many c.before)
+slice_bounds-load-end-2 c =
+    sym
+    (many c.args.file.now c.args.samples.now _ (sym c.read_number-refusal.ensures ∙ c.if-refusal-ne0.false)
+    c.count_of-count.ensures.0)
 
 pub load-requires : goal.load-requires
 load-requires c =
-    let k = c.before in
-    omega (arith, many k, k.count_of-count.ensures.0, long-held (t k.before) (met k.before).0)
+    let t = c.args.file.now in
+    let into = c.args.samples.now in
+    let n = c.count_of-count.ensures.0 in
+    let z = sym c.read_number-refusal.ensures ∙ c.if-refusal-ne0.false in
+    omega (arith, many t into _ z n, n, long-held t (met t into _ z n).0)
 
 pub returns : goal.returns
 unfolding samples_of held_in
 returns c =
-    let l = c.before.before in
-    let k = l.before.before in
-    let e = k.before in
-    let n = k.count_of-count.ensures.0 in
-    let read : l.load.new.1.0 ≡ samples_of (t e)
-    = l.load.ensures ∙ ap (λ (m : ℕ). map clip (loaded 3 m (drop 44 (t e)))) (many k ∙ n) in (
-      rw (c.rate_of.ensures, n) (sym (read_done (t e) (length (into e)) (zero e))),
-      rw read
-          (ap (λ (m : ℕ). samples_of (t e) ++ drop m (into e)) n ∙ sym (filled-done (t e) (into e) (zero e))),
-    )
+    let t = c.args.file.now in
+    let into = c.args.samples.now in
+    let n = c.count_of-count.ensures.0 in
+    let z = sym c.read_number-refusal.ensures ∙ c.if-refusal-ne0.false in
+    let read : c.load.new.samples ≡ samples_of t
+    = c.load.ensures ∙ ap (λ (m : ℕ). map clip (loaded 3 m (drop 44 t))) (many t into _ z n ∙ n) in
+    record {
+      value = rw (c.rate_of.ensures, n) (sym (read_done t (length into) z));
+      samples_after = rw read (ap (λ (m : ℕ). samples_of t ++ drop m into) n ∙ sym (filled-done t into z));
+    }

@@ -8,9 +8,9 @@ use Rattle.wav.proofs.reading.fitting.Goals as goal
 
 pub returns-then-rate-lt4294967296 : goal.returns-then-rate-lt4294967296
 returns-then-rate-lt4294967296 c =
-    let n = c.riff_size_lem.ensures in (
-      λ e. (c.if-rate-lt4294967296.true, omega (arith, ltb-true c.riff_size_lem.result 4294967296 e, n)),
-      λ p. lt-ltb c.riff_size_lem.result 4294967296 (omega (arith, p.1, n)),
+    let n = c.riff_size.ensures in (
+      λ e. (c.if-rate-lt4294967296.true, omega (arith, ltb-true c.riff_size.result 4294967296 e, n)),
+      λ p. lt-ltb c.riff_size.result 4294967296 (omega (arith, p.1, n)),
     )
 
 pub returns-else-rate-lt4294967296 : goal.returns-else-rate-lt4294967296

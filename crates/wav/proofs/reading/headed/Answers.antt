@@ -18,14 +18,11 @@ over d p e =
     ap (λ (r : List ℕ). p ++ r) (drop_of_length-le d {i = 0 + length p} (omega arith)) ∙ append-nil p
 
 pub slice_bounds-same-end : goal.slice_bounds-same-end
-slice_bounds-same-end c =
-    let s = c.before.before.before.before.before in
-    sym (length-take-le 44 s.args.file.now s.requires.0)
+slice_bounds-same-end c = sym (length-take-le 44 c.args.file.now c.requires.0)
 
 pub returns : goal.returns
 returns c =
-    let h = c.before.before.before.before in
-    let a = h.args in
-    let e : h.header.new.0 ≡ header a.rate a.count
-    = h.header.ensures ∙ over _ (header a.rate a.count) (sym (header-length a.rate a.count)) in
+    let a = c.args in
+    let e : c.header.new.file ≡ header a.rate a.count
+    = c.header.ensures ∙ over _ (header a.rate a.count) (sym (header-length a.rate a.count)) in
     rw e at c.same.ensures

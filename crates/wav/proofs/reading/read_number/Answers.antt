@@ -6,7 +6,6 @@ use mathlib.Core.Logic.{◌↔◌}
 use mathlib.Core.List.{List}
 use Prim.Native.Nat.{ℕ}
 use borrow.Author.Rules.{rules}
-use borrow.Author.Tests.{not-true, not-false}
 use Rattle.riff.specs.Held.{rate_of, count_of}
 use Rattle.wav.specs.Refusals.{Rated, Room, IsFile, ReadReturns}
 use Rattle.wav.specs.Recorded.{reading_number}
@@ -42,35 +41,28 @@ module _ (c : (lts.After-roomy tie.the-claims reads.Pre reads.Post)) where
 
 pub returns-then-not-formed : goal.returns-then-not-formed
 returns-then-not-formed c =
-    let b = c.before in
-    sym ((numbers b).form.1 (λ f. clash (not-true _ c.if-not-formed.true) ((formed b).1 f)))
+    let b = c.before.before in
+    sym ((numbers b).form.1 (λ f. clash c.if-not-formed.true ((formed b).1 f)))
 
 pub returns-then-not-rated : goal.returns-then-not-rated
 returns-then-not-rated c =
-    let one = c.before in
-    let b = one.before in
-    sym
-    ((numbers b).rate.1
-    ((formed b).0 (not-false _ one.if-not-formed.false), λ f. clash (not-true _ c.if-not-rated.true) ((rates b).1 f)))
+    let b = c.before.before.before in
+    sym ((numbers b).rate.1 ((formed b).0 c.if-not-formed.false, λ f. clash c.if-not-rated.true ((rates b).1 f)))
 
 pub returns-then-not-roomy : goal.returns-then-not-roomy
 returns-then-not-roomy c =
-    let two = c.before in
-    let one = two.before in
-    let b = one.before in
+    let b = c.before.before.before.before in
     sym
     ((numbers b).room_for.1 (
-      (formed b).0 (not-false _ one.if-not-formed.false),
-      ((rates b).0 (not-false _ two.if-not-rated.false), λ f. clash (not-true _ c.if-not-roomy.true) ((rooms b).1 f)),
+      (formed b).0 c.if-not-formed.false,
+      ((rates b).0 c.if-not-rated.false, λ f. clash c.if-not-roomy.true ((rooms b).1 f)),
     ))
 
 pub returns : goal.returns
 returns c =
-    let two = c.before in
-    let one = two.before in
-    let b = one.before in
+    let b = c.before.before.before.before in
     sym
     ((numbers b).accepted.1 (
-      (formed b).0 (not-false _ one.if-not-formed.false),
-      ((rates b).0 (not-false _ two.if-not-rated.false), (rooms b).0 (not-false _ c.if-not-roomy.false)),
+      (formed b).0 c.if-not-formed.false,
+      ((rates b).0 c.if-not-rated.false, (rooms b).0 c.if-not-roomy.false),
     ))
