@@ -3,4 +3,4 @@ use borrow.Author.Rules.{rules}
 use Rattle.kept.proofs.open_voice.Goals as goal
 
 pub returns : goal.returns
-returns c = rw c.pack-w.ensures c.before.before.before.open-o.ensures
+returns c = rw c.pack-w.ensures c.open-o.ensures

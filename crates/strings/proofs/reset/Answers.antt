@@ -40,4 +40,4 @@ resets r w o e = record {
 
 pub returns : goal.returns
 returns c =
-    resets c.«open».result c.pack-w.result c.«open».ensures c.pack-w.ensures
+    resets c.open-o.result c.pack-w.result c.open-o.ensures c.pack-w.ensures

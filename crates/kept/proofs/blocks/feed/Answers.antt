@@ -9,14 +9,20 @@ pub returns-then-is_silent : goal.returns-then-is_silent
 returns-then-is_silent c =
     let s = c.args in
     let q = c.is_silent.ensures c.if-is_silent.true in
-    rw (← zeros s.input.now (length s.output.now) q.0 q.1) c.play.ensures
+    rw (← zeros s.input.now (length s.output.now) q.0 q.1) (record {
+      on = c.play.ensures.on;
+      output_after = c.play.ensures.output_after;
+    })
 
 pub block-a-requires : goal.block-a-requires
 block-a-requires c = rw c.unpack-h.ensures c.requires
 
 pub pack-w-requires : goal.pack-w-requires
-pack-w-requires c = c.block-a.ensures.0.valid.fit
+pack-w-requires c = c.block-a.ensures.on.valid.fit
 
 pub returns : goal.returns
 returns c =
-    rw (← c.unpack-h.ensures, c.pack-w.ensures) c.block-a.ensures
+    rw (← c.unpack-h.ensures, c.pack-w.ensures) (record {
+      on = c.block-a.ensures.on;
+      output_after = c.block-a.ensures.output_after;
+    })

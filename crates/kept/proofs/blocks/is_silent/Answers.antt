@@ -13,4 +13,4 @@ pub returns : goal.returns
 returns c =
     λ e.
     let xs = c.args.input.now in
-    (c.if-input-room.false, ltb-false 0 (loudest xs) (sym c.sounds.ensures ∙ e))
+    (c.if-input-room.false, ltb-false 0 (loudest xs) (sym c.sounds.ensures ∙ not-true _ e))

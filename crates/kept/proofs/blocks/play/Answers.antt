@@ -28,7 +28,7 @@ returns c =
     let e = plays (voice_of h) xs n (length-replicate n (pos 0)) (zeros-quiet n) in
     let f = c.unfed-k.ensures in
     let k = c.unfed-k.new in
-    rw (← c.unpack-h.ensures, c.pack-w.ensures) (
-      block_on h l xs n e c.unfed-k.result k.0 f.valid f.after,
-      block-lent h l xs n e k.1.1.0 s.output.now f.out,
-    )
+    rw (← c.unpack-h.ensures, c.pack-w.ensures) (record {
+      on = block_on h l xs n e c.unfed-k.result k.line f.valid f.after;
+      output_after = block-lent h l xs n e k.output s.output.now f.out;
+    })

@@ -8,4 +8,7 @@ instant-c-requires c = rw c.unpack-h.ensures c.requires
 
 pub returns : goal.returns
 returns c =
-    rw (← c.unpack-h.ensures, c.pack-w.ensures) c.instant-c.ensures
+    rw (← c.unpack-h.ensures, c.pack-w.ensures) (record {
+      on = c.instant-c.ensures.on;
+      count_after = c.instant-c.ensures.count_value;
+    })

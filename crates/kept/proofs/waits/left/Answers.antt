@@ -8,7 +8,7 @@ use Rattle.kept.proofs.waits.left.Goals as goal
 
 pub overflow_sub-result : goal.overflow_sub-result
 overflow_sub-result c =
-    omega (arith, (subst (λ (w : Waiting). Waiting-valid c.args.advance w) c.w-1.given.1 c.requires).counted)
+    omega (arith, (subst (λ (w : Waiting). Waiting-valid c.args.advance w) c.in-Prepared.is c.requires).counted)
 
 pub returns-in-Prepared : goal.returns-in-Prepared
-returns-in-Prepared c = rw c.w-1.given.1
+returns-in-Prepared c = rw c.in-Prepared.is
