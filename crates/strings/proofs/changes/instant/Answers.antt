@@ -15,10 +15,12 @@ use Rattle.strings.proofs.changes.instant.Goals as goal
 pub returns-then-string-gt5 : goal.returns-then-string-gt5
 returns-then-string-gt5 c =
     let s = c.args in
-    let a = calls (instant (tuning s.order s.length s.delay)) in (
-      played-above s.string a c.requires (omega (arith, c.if-string-gt5.true)),
-      none-counted (strings_of s.heads.now s.lines.now) s.string a (omega (arith, c.if-string-gt5.true)),
-    )
+    let a = calls (instant (tuning s.order s.length s.delay)) in
+    record {
+      played = played-above s.string a c.requires (omega (arith, c.if-string-gt5.true));
+      count_after =
+          none-counted (strings_of s.heads.now s.lines.now) s.string a (omega (arith, c.if-string-gt5.true));
+    }
 
 pub instant-requires : goal.instant-requires
 instant-requires c =
@@ -29,7 +31,9 @@ unfolding C.number
 returns c =
     let k = c.args.string in
     let a = calls (instant (tuning c.args.order c.args.length c.args.delay)) in
-    let r = c.instant.ensures in (
-      played-still k a _ c.requires (omega arith) r.0.number r.0.state r.0.valid,
-      r.1 ∙ sym (count-itself k (omega arith) (strings_of c.args.heads.now c.args.lines.now) a),
-    )
+    let r = c.instant.ensures in
+    record {
+      played = played-still k a _ c.requires (omega arith) r.on.number r.on.state r.on.valid;
+      count_after =
+          r.count_after ∙ sym (count-itself k (omega arith) (strings_of c.args.heads.now c.args.lines.now) a);
+    }

@@ -15,10 +15,12 @@ returns-then-string-gt5 c =
     let s = c.args in
     let v = strings_of s.heads.now s.lines.now in
     let old = s.bytes.now in
-    let h : 5 < s.string = omega (arith, c.if-string-gt5.true) in (
-      number-above v s.string (I.store old) h,
-      (none-counted v s.string (I.store old) h, none_lent v s.string old h),
-    )
+    let h : 5 < s.string = omega (arith, c.if-string-gt5.true) in
+    record {
+      value = number-above v s.string (I.store old) h;
+      length_after = none-counted v s.string (I.store old) h;
+      bytes_after = none_lent v s.string old h;
+    }
 
 pub store-requires : goal.store-requires
 store-requires c =
@@ -31,7 +33,9 @@ returns c =
     let v = strings_of c.args.heads.now c.args.lines.now in
     let old = c.args.bytes.now in
     let h : k ≤ 5 = omega arith in
-    let r = c.store.ensures in (
-      r.number ∙ sym (number-itself k h v (I.store old)),
-      (r.long ∙ sym (count-itself k h v (I.store old)), r.slice ∙ sym (lent-itself k h v old)),
-    )
+    let r = c.store.ensures in
+    record {
+      value = r.number ∙ sym (number-itself k h v (I.store old));
+      length_after = r.long ∙ sym (count-itself k h v (I.store old));
+      bytes_after = r.slice ∙ sym (lent-itself k h v old);
+    }
