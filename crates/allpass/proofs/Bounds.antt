@@ -7,7 +7,7 @@ use native.Mathlib.Omega.{arith}
 use native.Mathlib.Nat.{le_trans, mul-le-mul_left, mul-le-mul_right}
 use lib.IntN.{ℤ, pos, nat_abs, ◌+ℤ◌, ◌-ℤ◌, ◌*ℤ◌, +ℤ_idr, *ℤ-zero}
 use lib.ListN.{length}
-use Rattle.integer.specs.Rounding.{M, clip}
+use Rattle.integer.specs.Rounding.{M}
 use Rattle.integer.specs.Cut.{cut, R}
 use Rattle.integer.proofs.Ring.{abs-*, abs-+, abs--, add-near, sub-near, mul-near}
 use Rattle.integer.proofs.Rounding.{clip_abs, clip-near}

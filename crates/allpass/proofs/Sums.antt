@@ -2,7 +2,7 @@
 -- filter's own sum is. One law puts a product in front of a sum, whatever its length. Assumes nothing.
 use mathlib.Core.Path.{◌≡◌, sym, ◌∙◌}
 use mathlib.Core.List.{List, [], ◌∷◌}
-use Prim.Native.Nat.{ℕ, ◌*◌, ◌≤◌, ◌^◌}
+use Prim.Native.Nat.{◌*◌, ◌≤◌, ◌^◌}
 use native.Mathlib.Omega.{arith}
 use native.Mathlib.Nat.{mul-le-mul, mul-le-mul_right}
 use lib.IntN.{ℤ, nat_abs, ◌+ℤ◌, ◌*ℤ◌, +ℤ_idr}

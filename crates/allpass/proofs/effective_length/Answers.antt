@@ -1,7 +1,6 @@
 -- `allpass::effective_length` meets its contract: what is not refused is taken, with small coefficients.
 -- Assumes nothing.
 use mathlib.Core.Path.{sym, ◌∙◌}
-use borrow.Author.Rules.{rules}
 use Rattle.refusal.specs.Orders.{Takes}
 use Rattle.thiran.proofs.Refusals.{takes}
 use Rattle.allpass.proofs.Taken.{taken-taps, taken-small, length-refused, length_taken}

@@ -1,7 +1,6 @@
 -- `allpass::kept` meets its contract: by the order, the numbers up to it.
 -- Assumes nothing.
 use mathlib.Core.Path.{◌≡◌, refl}
-use borrow.Author.Rules.{rules}
 use native.Mathlib.Omega.{arith}
 use mir.Syntax.{w64}
 use Rattle.integer.proofs.View.{read}

@@ -42,7 +42,7 @@ module _ (t : (lts.Then1 reads.Pre reads.Post)) where
 
 pub overflow_mul-result : goal.overflow_mul-result
 overflow_mul-result c =
-    let t = c.before.before.before.before in
+    let t = c.before.before.before.before.before in
     fits (c_2 t).a1 (v-2 t).v1 ((c_2 t).a2 ∷ []) ((v-2 t).v2 ∷ []) (n-2 t) (h-2 t)
 
 pub overflow_mul-result-then-order-eq2 : goal.overflow_mul-result-then-order-eq2
@@ -81,12 +81,12 @@ module _ (t : (lts.Else1 reads.Pre reads.Post)) where
 
 pub overflow_mul-result-2 : goal.overflow_mul-result-2
 overflow_mul-result-2 c =
-    let t = c.before.before.before.before in
+    let t = c.before.before.before.before.before in
     fits (c_3 t).a1 (v-3 t).v1 ((c_3 t).a2 ∷ (c_3 t).a3 ∷ []) ((v-3 t).v2 ∷ (v-3 t).v3 ∷ []) (n-3 t) (h-3 t)
 
 pub overflow_mul-result-3 : goal.overflow_mul-result-3
 overflow_mul-result-3 c =
-    let t = c.before.before.before.before.before.before.before.before in
+    let t = c.before.before.before.before.before.before.before.before.before in
     let n = n-3 t in
     fits (c_3 t).a2 (v-3 t).v2 ((c_3 t).a3 ∷ []) ((v-3 t).v3 ∷ []) (omega arith) (tail_within (h-3 t))
 

@@ -1,6 +1,6 @@
 -- `allpass::products::carry` meets its contract: w, its products, and the sums that w and the output take.
 -- Assumes nothing.
-use mathlib.Core.Path.{◌≡◌, sym, ap, subst, ◌∙◌}
+use mathlib.Core.Path.{◌≡◌, refl, sym, ap, ◌∙◌}
 use mathlib.Core.List.{List, reverse}
 use Prim.Native.Nat.{ℕ, ◌*◌, ◌≤◌, ◌^◌}
 use native.Mathlib.Omega.{arith}
@@ -10,10 +10,10 @@ use mir.Syntax.{w64}
 use mir.Val.{to_z, of_z}
 use Rattle.integer.specs.Rounding.{M, clip}
 use Rattle.integer.specs.Cut.{R}
-use Rattle.integer.proofs.View.{read}
 use Rattle.thiran.specs.Answers.{taps}
-use Rattle.allpass.specs.Allpass.{dot, final, shift, next, out}
-use Rattle.allpass.specs.Stored.{stored, held}
+use Rattle.thiran.specs.declared.formula.Coefficients.{Coefficients}
+use Rattle.allpass.specs.Allpass.{dot, final, shift, inner, next, out}
+use Rattle.allpass.specs.Stored.{stored, held, Fed}
 use Rattle.allpass.specs.Products.{scaled_of, last_of, renewed_of, products_of}
 use Rattle.allpass.specs.declared.State.{State}
 use Rattle.allpass.specs.declared.multiples.Multiples.{Multiples}
@@ -22,144 +22,115 @@ use Rattle.allpass.proofs.Bounds.{inner-within, final-within}
 use Rattle.allpass.proofs.Renewed.{first-cut, turned_sum, renewed}
 use Rattle.allpass.proofs.Little.{Little, Fits, a1-small, scaled_little, last_little, products_fit}
 use Rattle.allpass.proofs.products.carry.Goals as goal
-use Rattle.allpass.proofs.products.carry.Lts as lts
-use Rattle.allpass.proofs.products.carry.Reads as reads
-use Rattle.allpass.proofs.products.carry.Tie as tie
 
-module _ (s : (lts.Start tie.the-claims reads.Pre reads.Post)) where
-  abbrev N : ℕ
-  N = s.args.order
+-- what the machine reads back of z is z
+abbrev Read : ℤ → Type 0
+Read z = to_z w64 (of_z w64 z) ≡ z
 
+-- a filter that is fed f
+module _ (N : ℕ) (c : Coefficients) (v : State) (f : ℤ) (q : Fed N c v f) where
   abbrev A : List ℤ
-  A = taps N s.args.c
-
-  abbrev v : List ℤ
-  v = held N s.args.v
+  A = taps N c
 
   abbrev k : Products
-  k = products_of N s.args.c s.args.v
+  k = products_of N c v
 
   fit : Fits k
-  fit =
-      let f = s.requires.0 in
-      products_fit N s.args.c s.args.v f.least f.most f.taps_small f.state_within
+  fit = products_fit N c v q.least q.most q.taps_small q.state_within
 
--- ---- w and its products
-module _ (c : goal.After-entered-w) where
+  -- ---- w and its products
   abbrev w : ℤ
-  w = c.entered-w.result.n
+  w = inner A (held N v) f
 
   w-within : nat_abs w ≤ 2 * M
-  w-within =
-      let s = c.before in
-      let f = s.requires.0 in
-      rw c.entered-w.ensures
-      (inner-within (A s) f.taps_small s.args.f.n f.state_within f.sample)
+  w-within = inner-within A q.taps_small f q.state_within q.sample
 
-  little : Little (scaled_of (N c.before) c.args.c w)
-  little =
-      let f = c.requires.0 in
-      scaled_little (N c.before) c.args.c w f.least f.most f.taps_small w-within
+  abbrev x : Multiples
+  x = scaled_of N c w
+
+  little : Little x
+  little = scaled_little N c w q.least q.most q.taps_small w-within
+
+  last : nat_abs (last_of N x) ≤ 2 ^ 39
+  last = last_little N x q.least q.most little
+
+  oldest_within : nat_abs (final (pos 0) (held N v)) ≤ 2 * M
+  oldest_within = final-within (pos 0) (omega arith) q.state_within
+
+  -- ---- what is returned
+  is-next : shift w (held N v) ≡ next A (held N v) f
+  unfolding next
+  is-next = refl
+
+  is_sum : last_of N x +ℤ k.turned ≡ dot (reverse A) (next A (held N v) f)
+  is_sum = turned_sum c v w N q.least q.most ∙ ap (dot (reverse A)) is-next
+
+  carried : (s : State) → s ≡ stored (shift w (held N v)) → renewed_of N k x ≡ products_of N c s
+  carried s e = renewed c v w N q.least q.most ∙ ap (products_of N c) (sym e)
+
+-- products of equal products are equal, and so is what is heard of equal numbers
+renewed_as : (N : ℕ) {k k' : Products} {x x' : Multiples} → k ≡ k' → x ≡ x' → renewed_of N k x ≡ renewed_of N k' x'
+renewed_as N ek ex = rw (ek, ex)
+
+heard_as : (N : ℕ) {o o' t t' : ℤ} {x x' : Multiples} → o ≡ o' → x ≡ x' → t ≡ t'
+    → o +ℤ R (last_of N x +ℤ t) ≡ o' +ℤ R (last_of N x' +ℤ t')
+heard_as N eo ex et = rw (eo, ex, et)
 
 pub scaled-x-requires : goal.scaled-x-requires
 scaled-x-requires c =
-    let f = c.requires.0 in
-    (f.least, f.most, f.taps_small, w-within c)
+    let q = c.requires.0 in
+    (q.least, q.most, q.taps_small, rw c.entered-w.ensures (w-within _ _ _ _ q))
 
 pub renewed-n-requires : goal.renewed-n-requires
 renewed-n-requires c =
-    let s = c.before.before in
-    let f = s.requires.0 in (
-      (
-        rw c.scaled-x.ensures (omega (arith, (little c.before).two)),
-        rw s.requires.1 (omega (arith, (fit s).third)),
-        rw s.requires.1 (omega (arith, (fit s).newest)),
-      ),
-      (
+    let N = c.args.order in
+    let q = c.requires.0 in
+    let b = w-within _ _ _ _ q in
+    let l = little _ _ _ _ q in
+    let p = fit _ _ _ _ q in
+    let e = c.scaled-x.ensures ∙ ap (scaled_of N c.args.c) c.entered-w.ensures in
+    record {
+      x2_bound = (
+        rw e (omega (arith, l.two)),
+        rw c.requires.1 (omega (arith, p.third)),
+        rw c.requires.1 (omega (arith, p.newest)),
+      );
+      x1_value = (
         ap (λ (x : Multiples). x.x1) c.scaled-x.ensures,
-        omega (arith, a1-small (N s) s.args.c f.least, f.taps_small),
-        omega (arith, w-within c.before),
-      ),
-    )
-
--- ---- the sum that the output takes
-module _ (c : goal.After-struct_told-2-1) where
-  abbrev start : (lts.Start tie.the-claims reads.Pre reads.Post)
-  start = c.before.before.before.before.before.before
-
-  turned-read : to_z w64 (of_z w64 start.args.k.turned) ≡ (k start).turned
-  turned-read =
-      read w64 start.args.k.turned c.struct_told-1.given.1.1.1.1.1.0.1
-      (ap (λ (k : Products). k.turned) start.requires.1)
-
-  abbrev n : Products
-  n = c.renewed-n.result
-
-  cut-read : N start ≡ 1
-      → to_z w64 (of_z w64 n.cut) ≡ R (last_of (N start) c.scaled-x.result +ℤ (k start).turned)
-  cut-read e =
-      read w64 n.cut c.struct_told-2-1.given.0.1
-      (ap (λ (k : Products). k.cut) c.renewed-n.ensures
-      ∙ first-cut start.args.c start.args.v (N start) c.scaled-x.result e)
-
-  last : nat_abs (last_of (N start) c.scaled-x.result) ≤ 2 ^ 39
-  last =
-      let f = start.requires.0 in
-      let x = scaled_of (N start) start.args.c (w c.before.before.before.before.before) in
-      subst (λ (x : Multiples). nat_abs (last_of (N start) x) ≤ 2 ^ 39) (sym c.scaled-x.ensures)
-      (last_little (N start) x f.least f.most (little c.before.before.before.before.before))
+        omega (arith, a1-small N c.args.c q.least, q.taps_small),
+        rw c.entered-w.ensures (omega (arith, b)),
+      );
+    }
 
 pub output-y-requires : goal.output-y-requires
 output-y-requires c =
-    let t = sym (turned-read c) in
-    let o = c.before.before in (
-      λ e. cut-read c e ∙ ap (λ (u : ℤ). R (last_of (N (start c)) c.scaled-x.result +ℤ u)) t,
-      rw o.oldest.ensures
-          (omega (arith, final-within (pos 0) (omega arith) (start c).requires.0.state_within)),
-      omega (arith, last c),
-      subst (λ (u : ℤ). nat_abs u ≤ 2 ^ 41) t (omega (arith, (fit (start c)).turned)),
+    let N = c.args.order in
+    let q = c.requires.0 in
+    let e = c.scaled-x.ensures ∙ ap (scaled_of N c.args.c) c.entered-w.ensures in
+    let t : Read c.args.k.turned = search rules in
+    let turned = t ∙ ap (λ (k : Products). k.turned) c.requires.1 in
+    let n : Read c.renewed-n.result.cut = search rules in
+    let cut = n ∙ ap (λ (k : Products). k.cut) c.renewed-n.ensures in
+    let p = fit _ _ _ _ q in (
+      λ one. cut ∙ first-cut c.args.c c.args.v N c.scaled-x.result one
+          ∙ ap (λ (u : ℤ). R (last_of N c.scaled-x.result +ℤ u)) (sym turned),
+      rw c.oldest.ensures (omega (arith, oldest_within _ _ _ _ q)),
+      rw e (omega (arith, last _ _ _ _ q)),
+      rw turned (omega (arith, p.turned)),
     )
-
--- ---- what is returned
-module _ (c : goal.After-shifted-s) where
-  abbrev s : (lts.Start tie.the-claims reads.Pre reads.Post)
-  s = start c.before.before
-
-  abbrev x : Multiples
-  x = (c.before.before.before.before c.before.before).scaled.result
-
-  abbrev z : ℤ
-  z = w (c.before.before.before.before c.before.before).before
-
-  is-next : shift z (v s) ≡ next (A s) (v s) s.args.f.n
-  unfolding next
-  is-next = ap (λ (z : ℤ). shift z (v s)) (c.before.before.before.before c.before.before).before.entered.ensures
-
-  is_sum : last_of (N s) x +ℤ (k s).turned ≡ dot (reverse (A s)) (next (A s) (v s) s.args.f.n)
-  is_sum =
-      let f = s.requires.0 in
-      ap (λ (x : Multiples). last_of (N s) x +ℤ (k s).turned) (c.before.before.before.before c.before.before).scaled.ensures
-      ∙ turned_sum s.args.c s.args.v z (N s) f.least f.most
-      ∙ ap (dot (reverse (A s))) is-next
-
-  heard : c.output-y.result.n
-      ≡ final (pos 0) (v s) +ℤ R (dot (reverse (A s)) (next (A s) (v s) s.args.f.n))
-  heard =
-      let o = c.before.before.before.before in
-      c.output-y.ensures
-      ∙ ap (λ (u : ℤ). o.oldest.result.n +ℤ R (last_of (N s) x +ℤ u)) (turned-read c.before.before)
-      ∙ ap (λ (y : ℤ). y +ℤ R (last_of (N s) x +ℤ (k s).turned)) o.oldest.ensures
-      ∙ ap (λ (u : ℤ). final (pos 0) (v s) +ℤ R u) is_sum
-
-  carried : c.renewed-n.result ≡ products_of (N s) s.args.c c.shifted-s.result
-  carried =
-      let f = s.requires.0 in
-      c.renewed-n.ensures
-      ∙ ap (λ (k : Products). renewed_of (N s) k x) s.requires.1
-      ∙ ap (λ (x : Multiples). renewed_of (N s) (k s) x) (c.before.before.before.before c.before.before).scaled.ensures
-      ∙ renewed s.args.c s.args.v z (N s) f.least f.most
-      ∙ ap (λ (v : State). products_of (N s) s.args.c v) (sym c.shifted-s.ensures)
 
 pub returns : goal.returns
 unfolding out
-returns c = (ap clip (heard c), c.shifted-s.ensures ∙ ap stored (is-next c), carried c)
+returns c =
+    let q = c.requires.0 in
+    let N = c.args.order in
+    let e = c.scaled-x.ensures ∙ ap (scaled_of N c.args.c) c.entered-w.ensures in
+    let s = c.shifted-s.ensures ∙ ap (λ (z : ℤ). stored (shift z (held N c.args.v))) c.entered-w.ensures in
+    let t : Read c.args.k.turned = search rules in
+    let turned = t ∙ ap (λ (k : Products). k.turned) c.requires.1 in
+    let heard = c.output-y.ensures ∙ heard_as N c.oldest.ensures e turned
+    ∙ ap (λ (u : ℤ). final (pos 0) (held N c.args.v) +ℤ R u) (is_sum _ _ _ _ q) in (
+      ap clip heard,
+      s ∙ ap stored (is-next _ _ _ _ q),
+      c.renewed-n.ensures ∙ renewed_as N c.requires.1 e ∙ carried _ _ _ _ q _ s,
+    )

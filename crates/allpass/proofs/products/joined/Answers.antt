@@ -1,7 +1,6 @@
 -- `allpass::products::joined` meets its contract: each number as it is read.
 -- Assumes nothing.
 use mathlib.Core.Path.{refl, ap, ◌∙◌}
-use borrow.Author.Rules.{rules}
 use mir.Syntax.{w64}
 use Rattle.integer.proofs.View.{read}
 use Rattle.allpass.specs.Products.{turned_of}

@@ -1,19 +1,15 @@
 -- `allpass::response::last_loud` meets its contract. The loop's invariant: the state can be fed 0, and what was
 -- found, with what is still to come, is what is found of all values. The measure is what is to come. Assumes
 -- nothing.
-use mathlib.Core.Path.{◌≡◌, ap, ◌∙◌}
-use mathlib.Core.List.{List, [], ◌∷◌}
-use Prim.Native.Nat.{ℕ, suc, ◌+◌, ◌-◌, ◌≤◌}
-use native.Mathlib.Omega.{arith}
-use borrow.Author.Rules.{rules}
-use lib.IntN.{ℤ, pos}
+use mathlib.Core.Path.{◌≡◌}
+use Prim.Native.Nat.{◌-◌, ◌≤◌}
+use lib.IntN.{pos}
 use lib.ListN.{replicate}
 use Rattle.thiran.specs.Answers.{taps}
 use Rattle.allpass.specs.Allpass.{inners}
 use Rattle.allpass.specs.Length.{response, last_above}
-use Rattle.allpass.specs.Stored.{stored, held, Fed}
-use Rattle.allpass.proofs.Last.{found, found_all, found-next}
-use Rattle.allpass.proofs.Stored.{fed-next, fed-rest, held-rest}
+use Rattle.allpass.specs.Stored.{held, Fed}
+use Rattle.allpass.proofs.Last.{found}
 use Rattle.allpass.proofs.response.last_loud.Given as goal
 
 abbrev pub invariant-loop-index : goal.invariant-loop-index

@@ -1,7 +1,6 @@
 -- `allpass::sample::allpass` meets its contract: `carry` with the state's own products, and a clip.
 -- Assumes nothing.
 use native.Mathlib.Omega.{arith}
-use borrow.Author.Rules.{rules}
 use Rattle.allpass.proofs.sample.allpass.Goals as goal
 
 -- a state that can be fed a sample can be fed 0

@@ -1,6 +1,5 @@
 -- `allpass::sample::eliminate` meets its contract: w in front of the state.
 -- Assumes nothing.
-use borrow.Author.Rules.{rules}
 use Rattle.allpass.specs.Allpass.{next}
 use Rattle.allpass.proofs.sample.eliminate.Goals as goal
 
