@@ -1,7 +1,6 @@
 -- `line::room` meets its contract: neither place is nearer to the ring's end.
 -- Assumes nothing.
 use native.Mathlib.Omega.{arith}
-use borrow.Author.Rules.{rules}
 use Rattle.line.proofs.room.Goals as goal
 
 pub overflow_sub-p : goal.overflow_sub-p

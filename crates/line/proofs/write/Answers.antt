@@ -1,28 +1,24 @@
 -- `line::write` meets its contract: `ring-write`, whether the place is the last or not.
 -- Assumes nothing.
 use mathlib.Core.Path.{◌≡◌, ap, ◌∙◌}
-use mathlib.Core.List.{◌∷◌}
-use Prim.Native.Nat.{ℕ, ◌+◌, ◌%◌}
+use mathlib.Core.List.{List, ◌∷◌}
+use Prim.Native.Nat.{ℕ, ◌+◌, ◌%◌, ◌<◌}
 use native.Mathlib.Omega.{arith}
-use borrow.Author.Rules.{rules}
-use lib.ListN.{take}
+use lib.IntN.{ℤ}
+use lib.ListN.{length, take, set}
 use Rattle.line.specs.Ring.{ring}
 use Rattle.line.proofs.Ring.{ring_write}
 use Rattle.line.proofs.write.Goals as goal
-use Rattle.line.proofs.write.Lts as lts
-use Rattle.line.proofs.write.Reads as reads
-use Rattle.line.proofs.write.Tie as tie
 
-module _ (c : (lts.After-write tie.the-claims reads.Pre reads.Post)) where
-  written : (next : ℕ) → next ≡ (c.args.at + 1) % 2112
-      → ring next c.write.new.0 ≡ c.args.s.n ∷ take 2111 (ring c.args.at c.args.line.now)
-  written next e =
-      let a = c.args in
-      ap (ring next) c.write.ensures
-      ∙ ring_write a.line.now a.at c.write-arg-1.given.0.1 next a.s.n c.requires.0 e
+-- what a store of x at place at makes of the line
+written : (l : List ℤ) (at : ℕ) (x : ℤ) (m : List ℤ) (next : ℕ) → length l ≡ 2112 → at < 2112
+    → m ≡ set l at x → next ≡ (at + 1) % 2112 → ring next m ≡ x ∷ take 2111 (ring at l)
+written l at x m next long h e n = ap (ring next) e ∙ ring_write l at long next x h n
 
 pub returns-then-at-eq2111 : goal.returns-then-at-eq2111
-returns-then-at-eq2111 c = (omega arith, written c.before 0 (omega arith))
+returns-then-at-eq2111 c =
+    (omega arith, written _ _ _ _ _ c.told-line c.requires.0 c.write.ensures (omega arith))
 
 pub returns-else-at-eq2111 : goal.returns-else-at-eq2111
-returns-else-at-eq2111 c = (omega arith, written c.before _ (omega arith))
+returns-else-at-eq2111 c =
+    (omega arith, written _ _ _ _ _ c.told-line c.requires.0 c.write.ensures (omega arith))
