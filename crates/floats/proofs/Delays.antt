@@ -3,13 +3,11 @@ use Rattle.std.proofs.Common.{◌≡◌, ℕ, Bool, false, not, ◌↔◌, ℤ, 
 use native.Mathlib.Decide.{ℕ_discrete}
 use lib.Ieee.{Float}
 use Rattle.integer.specs.Parts.{up}
-use Rattle.integer.specs.Rounding.{nearest}
 use Rattle.integer.proofs.View.{Zs, onev}
 use Rattle.integer.proofs.Rounding.{nearest-is, nearest-only}
 use Rattle.refusal.specs.Limits.{Between, met}
 use Rattle.refusal.specs.Orders as orders
 use Rattle.refusal.proofs.Ranges.{ordered}
-use Rattle.refusal.proofs.Tests.{accepted}
 use Rattle.pitch.specs.declared.Pitch.{Pitch}
 use Rattle.pitch.specs.Pitch.{split_l, split_d, note_length}
 use Rattle.pitch.specs.Returns.{Long}

@@ -10,7 +10,7 @@ use native.Mathlib.Decide.{ℕ_discrete, dec_lt}
 use borrow.Author.Tests.{eq-eqb, ne_eqb}
 use lib.IntN.{ℤ, pos, ◌*ℤ◌}
 use lib.ListN.{get_or}
-use Rattle.integer.specs.Rounding.{Nearest, nearest}
+use Rattle.integer.specs.Rounding.{Nearest}
 use Rattle.integer.specs.Parts.{up, dn}
 use Rattle.integer.proofs.View.{+v, *v, onev, Zs}
 use Rattle.integer.proofs.Rounding.{nearest-only}

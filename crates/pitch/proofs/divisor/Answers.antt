@@ -1,7 +1,6 @@
 -- `pitch::divisor` meets its contract: 440 times an entry is below 2^34, and shifted by 10 at most it fits.
 -- Assumes nothing.
 use native.Mathlib.Omega.{arith}
-use borrow.Author.Rules.{rules}
 use lib.Pow.{shl_exact}
 use Rattle.pitch.proofs.Quotient.{power, tuned-most}
 use Rattle.pitch.proofs.divisor.Goals as goal

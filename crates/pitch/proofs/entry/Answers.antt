@@ -1,7 +1,6 @@
 -- `pitch::entry` meets its contract: the code's table is the octave.
 -- Assumes nothing.
 use mathlib.Core.Path.{refl}
-use borrow.Author.Rules.{rules}
 use Rattle.pitch.specs.Pitch.{octave}
 use Rattle.pitch.proofs.entry.Goals as goal
 

@@ -3,7 +3,6 @@
 use mathlib.Core.Path.{ap}
 use Prim.Native.Nat.{◌*◌, ◌^◌, ◌≤◌}
 use native.Mathlib.Omega.{arith}
-use borrow.Author.Rules.{rules}
 use Rattle.integer.specs.Parts.{up}
 use Rattle.pitch.proofs.Theorems.{divisor_least}
 use Rattle.pitch.proofs.Quotient.{power, divisor_most, quotient, small}

@@ -3,7 +3,6 @@
 use mathlib.Core.Path.{◌≡◌, sym, ◌∙◌}
 use mathlib.Core.Bool.{false}
 use native.Mathlib.Omega.{arith}
-use borrow.Author.Rules.{rules}
 use Rattle.refusal.specs.Limits.{outside}
 use Rattle.refusal.specs.Orders.{orders, order}
 use Rattle.refusal.proofs.Returned.{is-kept}

@@ -1,5 +1,5 @@
 -- `floats::frame::frame_of` meets its contract.
-use Rattle.std.proofs.Common.{to_z-of_z, rules}
+use Rattle.std.proofs.Common.{to_z-of_z}
 use Rattle.floats.proofs.frame.frame_of.Goals as goal
 
 pub returns : goal.returns

@@ -1,5 +1,5 @@
 -- `floats::rounding::nearest_half` meets its contract: below zero by the ceiling, else by the whole part.
-use Rattle.std.proofs.Common.{◌≡◌, ℕ, ◌+◌, ◌-◌, ◌*◌, ◌/◌, ◌^◌, ◌<◌, ◌≤◌, ℤ, pos, ◌-ℤ◌, neg_ℤ, sym, ap, ◌∙◌, arith, to_z-of_z, w64, SFits, to_z, rules}
+use Rattle.std.proofs.Common.{◌≡◌, ℕ, ◌+◌, ◌-◌, ◌*◌, ◌/◌, ◌^◌, ◌<◌, ◌≤◌, ℤ, pos, ◌-ℤ◌, neg_ℤ, sym, ap, ◌∙◌, arith, to_z-of_z, w64, SFits, to_z}
 use lib.Ieee.{Float, neg, of_bits}
 use mir.ValLaws.{to_z_pos}
 use Rattle.integer.specs.Rounding.{nearest}

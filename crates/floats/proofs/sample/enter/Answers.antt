@@ -1,81 +1,57 @@
 -- `floats::sample::enter` meets its contract.
-use Rattle.std.proofs.Common.{◌≡◌, ◌*◌, ◌^◌, ◌≤◌, true, T, pos, ◌*ℤ◌, sym, refl, ap, ◌∙◌, subst, arith, lit<, w64, rules, le-ltb, lt-ltb}
-use borrow.Author.Tests.{not-true, not-false}
-use lib.Ieee.{of_bits, neg}
-use Rattle.integer.specs.Rounding.{nearest, clip}
-use Rattle.integer.proofs.View.{read}
-use Rattle.floats.specs.Worth.{finite, size, unit, above}
+use Rattle.std.proofs.Common.{◌≡◌, true, T, sym, refl, ap, ◌∙◌, subst, arith, lit<, w64, to_z, of_z, rules, le-ltb, lt-ltb}
+use lib.Ieee.{Float, of_bits, neg}
+use Rattle.integer.specs.Rounding.{clip}
+use Rattle.floats.specs.Worth.{finite, size, unit}
 use Rattle.floats.specs.Steps.{Scaled}
 use Rattle.floats.specs.Sample.{enters}
 use Rattle.floats.proofs.Parts.{rounded, small}
 use Rattle.floats.proofs.Tests.{under, over, between}
 use Rattle.floats.proofs.sample.enter.Goals as goal
-use Rattle.floats.proofs.sample.enter.Lts as lts
-use Rattle.floats.proofs.sample.enter.Reads as reads
-use Rattle.floats.proofs.sample.enter.Tie as tie
+
+fin-T : (x : Float) → finite x ≡ true → T (finite x)
+fin-T x e = subst T (sym e) tt
 
 pub returns-then-not-is_finite : goal.returns-then-not-is_finite
 unfolding enters
-returns-then-not-is_finite c =
-    rw (sym c.is_finite.ensures ∙ not-true c.is_finite.result c.if-not-is_finite.true)
-
--- past the first test
-is-fin : (c : (lts.Else1 tie.the-claims reads.Pre reads.Post)) → finite c.args.x ≡ true
-is-fin c = sym c.is_finite.ensures ∙ not-false c.is_finite.result c.if-not-is_finite.false
-
-fin-T : (c : (lts.Else1 tie.the-claims reads.Pre reads.Post)) → T (finite c.args.x)
-fin-T c = subst T (sym (is-fin c)) tt
+returns-then-not-is_finite c = rw (sym c.is_finite.ensures ∙ c.if-not-is_finite.true)
 
 pub returns-then-x : goal.returns-then-x
 unfolding enters of_bits neg
 returns-then-x c =
-    let e = c.before in
-    let x = e.args.x in
-    rw (is-fin e, lt-ltb (unit x) (size x) (omega (arith, under x 1 (fin-T e) c.if-x.true)))
+    let x = c.args.x in
+    let e = sym c.is_finite.ensures ∙ c.if-not-is_finite.false in
+    rw (e, lt-ltb (unit x) (size x) (omega (arith, under x 1 (fin-T x e) c.if-x.true)))
 
 pub returns-then-x-2 : goal.returns-then-x-2
 unfolding enters of_bits
 returns-then-x-2 c =
-    let e = c.before.before in
-    let x = e.args.x in
-    rw (is-fin e, lt-ltb (unit x) (size x) (omega (arith, (over x 1 (fin-T e) c.if-x-2.true).1)))
-
--- past all tests
-inside : (c : goal.Else-x-2) → let x = c.args.x in size x ≤ 1 * unit x
-unfolding of_bits neg
-inside c =
-    let e = c.before.before in
-    between e.args.x 1 (fin-T e) c.if-x.false c.if-x-2.false
+    let x = c.args.x in
+    let e = sym c.is_finite.ensures ∙ c.if-not-is_finite.false in
+    rw (e, lt-ltb (unit x) (size x) (omega (arith, (over x 1 (fin-T x e) c.if-x-2.true).1)))
 
 pub scale-requires : goal.scale-requires
-scale-requires c = fin-T c.before.before
-
-scaled : (c : goal.After-scale)
-    → Scaled c.args.x 24 c.scale.result
-unfolding of_bits
-scaled c = c.scale.ensures 24 (omega arith) refl
+scale-requires c = fin-T c.args.x (sym c.is_finite.ensures ∙ c.if-not-is_finite.false)
 
 pub nearest_half-requires : goal.nearest_half-requires
+unfolding of_bits neg
 nearest_half-requires c =
-    let s = scaled c in
     let x = c.args.x in
-    (s.is_finite, small x c.scale.result 24 1 s (inside c.before) (lit< tt))
-
-value : (c : (lts.After-clip tie.the-claims reads.Pre reads.Post)) → let x = c.args.x in
-    c.clip-s.result.n ≡ clip (nearest (above x *ℤ pos (2 ^ 23)) (unit x))
-value c =
-    let x = c.args.x in
-    let t = c.before.before in
-    c.clip-s.ensures ∙ ap clip (c.nearest_half.ensures ∙ rounded x t.scale.result 23 (scaled t))
+    let e = sym c.is_finite.ensures ∙ c.if-not-is_finite.false in
+    let s : Scaled x 24 c.scale.result = c.scale.ensures 24 (omega arith) refl in
+    (s.is_finite, small x c.scale.result 24 1 s (between x 1 (fin-T x e) c.if-x.false c.if-x-2.false) (lit< tt))
 
 pub returns : goal.returns
-unfolding enters
+unfolding enters of_bits neg
 returns c =
-    let i = c.before.before.before.before in
-    let e = i.before.before in
-    let x = e.args.x in
+    let x = c.args.x in
+    let e = sym c.is_finite.ensures ∙ c.if-not-is_finite.false in
+    let s : Scaled x 24 c.scale.result = c.scale.ensures 24 (omega arith) refl in
+    let value = c.clip-s.ensures ∙ ap clip (c.nearest_half.ensures ∙ rounded x c.scale.result 23 s) in
+    let read : to_z w64 (of_z w64 c.clip-s.result.n) ≡ c.clip-s.result.n = search rules in
     rw (
-      read w64 c.clip-s.result.n c.struct_told-1.given.0.1 (value c.before),
-      is-fin e,
-      le-ltb (unit x) (size x) (omega (arith, inside i)),
+      read,
+      value,
+      e,
+      le-ltb (unit x) (size x) (omega (arith, between x 1 (fin-T x e) c.if-x.false c.if-x-2.false)),
     )
