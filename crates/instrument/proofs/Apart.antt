@@ -67,6 +67,17 @@ module _ (k : ℕ) (h : k ≤ 5) where
       ≡ answer (refusal (own_limits (s k) a)) (own_count (s k) a) (own_out (s k) a) (own_slice (s k) a)
   answer-itself s a = rw (number-itself s a, count-itself s a, out-itself s a, slice-itself s a)
 
+  -- the same of a string j that is k
+  answer-own : (s : Strings) (a : Own) (j : ℕ) → k ≡ j
+      → answer (number s (on j a)) (counted s j a) (out s (on j a)) (slice s j a)
+      ≡ answer (refusal (own_limits (s k) a)) (own_count (s k) a) (own_out (s k) a) (own_slice (s k) a)
+  answer-own s a j i =
+      let f : (n : ℕ) → Answer = λ n. answer (number s (on n a)) (counted s n a) (out s (on n a)) (slice s n a) in
+      sym (ap f i) ∙ answer-itself s a
+
+  play-own : (s : Strings) (a : Own) (j : ℕ) → k ≡ j → play s (on j a) k ≡ own (s k) a
+  play-own s a j i = sym (ap (λ (n : ℕ). play s (on n a) k) i) ∙ itself s a
+
   -- ---- a list of calls
   pub alone : (ps : List Play) (s : Strings) → plays s ps k ≡ owns (s k) (its k ps)
   unfolding play
@@ -95,7 +106,9 @@ module _ (k : ℕ) (h : k ≤ 5) where
           ≡ own_answers (s k) (cond b (a ∷ its k ps) (its k ps))
       go true e rest =
           let i : k ≡ j = eqb-true k j e in
-          rw (rest, ← i, answer-itself s a, itself s a)
+          rw (answer-own s a j i)
+          (ap (◌∷◌ (answer (refusal (own_limits (s k) a)) (own_count (s k) a) (own_out (s k) a) (own_slice (s k) a)))
+          (rest ∙ ap (λ (v : State). own_answers v (its k ps)) (play-own s a j i)))
       go false e rest = rest ∙ ap (λ (v : State). own_answers v (its k ps)) (others s j k a (eqb-false k j e))
   answers_alone (mix xs n ∷ ps) s =
       ap (λ (r : List Answer). answer (number s (mix xs n)) 0 (put (s k) (block xs n)) [] ∷ r)
