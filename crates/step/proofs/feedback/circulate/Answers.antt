@@ -15,29 +15,22 @@ use Rattle.step.proofs.feedback.circulate.Goals as goal
 
 pub hear-o-requires : goal.hear-o-requires
 hear-o-requires c =
-    let s = c.before.before.before in
-    (s.requires.0.0, read-within (s.args.f.tuning.length - 1) s.requires.0.4 c.read-a.ensures)
+    let r = c.requires.tuned in
+    (r.0, read-within (c.args.f.tuning.length - 1) r.4 c.read-a.ensures)
 
 pub write-next-requires : goal.write-next-requires
 write-next-requires c =
-    let m = c.before in
-    let s = m.before.before.before.before.before.before.before in
-    let a = s.args in
-    let u = (a.x.n +ℤ a.noise.n) +ℤ m.looped.result.n in
-    (s.requires.0.3, subst (λ (z : ℤ). nat_abs z ≤ M) (sym m.mixed-s.ensures) (clip_abs u))
+    let a = c.args in
+    let u = (a.x.n +ℤ a.noise.n) +ℤ c.looped.result.n in
+    (c.requires.tuned.3, subst (λ (z : ℤ). nat_abs z ≤ M) (sym c.mixed-s.ensures) (clip_abs u))
 
 pub returns : goal.returns
 returns c =
-    let w = c.before in
-    let m = w.before.before in
-    let l = m.before in
-    let o = l.before.before in
-    let r = o.before in
-    let a = r.args in
+    let a = c.args in
     let s =
-    m.mixed-s.ensures ∙ ap (λ (b : ℤ). clip ((a.x.n +ℤ a.noise.n) +ℤ b)) l.looped.ensures.0 in
+    c.mixed-s.ensures ∙ ap (λ (b : ℤ). clip ((a.x.n +ℤ a.noise.n) +ℤ b)) c.looped.ensures.0 in
     record {
-      hears = subst (λ (x : ℤ). Hears a.f x o.hear-o.result) r.read-a.ensures o.hear-o.ensures;
-      place = w.write-next.ensures.0;
-      line = w.write-next.ensures.1 ∙ ap (λ (s : ℤ). s ∷ take 2111 (ring a.at a.line.now)) s;
+      hears = subst (λ (x : ℤ). Hears a.f x c.hear-o.result) c.read-a.ensures c.hear-o.ensures;
+      place = c.write-next.ensures.0;
+      line = c.write-next.ensures.1 ∙ ap (λ (s : ℤ). s ∷ take 2111 (ring a.at a.line.now)) s;
     }

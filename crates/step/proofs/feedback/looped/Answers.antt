@@ -55,5 +55,5 @@ cut_as-requires c =
 pub returns : goal.returns
 returns c =
     let z = c.before in
-    let e = c.Cut-as.ensures ∙ ap Q (is-product z) in
+    let e = c.cut_as.ensures ∙ ap Q (is-product z) in
     (e, rw e (kept z.before.before))

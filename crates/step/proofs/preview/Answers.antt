@@ -1,7 +1,0 @@
--- `step::preview` meets its contract: by what waits.
--- Assumes nothing.
-use borrow.Author.Rules.{rules}
-use Rattle.step.proofs.preview.Goals as goal
-
-pub returns-in-Prepared : goal.returns-in-Prepared
-returns-in-Prepared c = rw c.w-1.given.1
