@@ -37,9 +37,8 @@ read-x-requires c = (c.requires.1, (far c).0, (far c).1)
 
 pub moved-p-requires : goal.moved-p-requires
 moved-p-requires c =
-    let s = c.before.before.before.before in
-    let k = s.args.f.tuning.length + c.loop-left.left in
-    (c.loop-left.invariant.0, read-within (k - 1) s.requires.3 c.read-x.ensures)
+    let k = c.args.f.tuning.length + c.loop-left.left in
+    (c.loop-left.invariant.0, read-within (k - 1) c.requires.3 c.read-x.ensures)
 
 pub overflow_sub-left : goal.overflow_sub-left
 overflow_sub-left c = omega arith
@@ -52,13 +51,12 @@ loop-left-smaller c = omega arith
 
 pub loop-left-preserved : goal.loop-left-preserved
 loop-left-preserved c =
-    let s = c.before.before.before.before.before in
     let l = c.loop-left in
-    let t = s.args.f.tuning in
+    let t = c.args.f.tuning in
     let v = filter_of l.p in
     let u = filter_of c.moved-p.result in
     let m = c.moved-p.ensures in
-    let q = back (ring s.args.at s.args.line.now) in
+    let q = back (ring c.args.at c.args.line.now) in
     let e : u ≡ next (A (tuning_of t)) v (q (t.length + l.left)) =
     m.state
     ∙ ap (λ (t : Tuning). next (A (tuning_of t)) v c.read-x.result.n) l.invariant.1
@@ -73,11 +71,12 @@ pub returns : goal.returns
 returns c =
     let l = c.loop-left in
     let i : l.left ≡ 0 = omega arith in
-    let a = c.args in (
-      record { tuning = l.invariant.1; state = rw i at l.invariant.3; tuned = l.invariant.0 },
-      omega (
+    let a = c.args in
+    record {
+      ran = record { tuning = l.invariant.1; state = rw i at l.invariant.3; tuned = l.invariant.0 };
+      count_value = omega (
         arith,
         l.invariant.2,
         length-window (back (ring a.at a.line.now)) a.f.tuning.length a.advance,
-      ),
-    )
+      );
+    }

@@ -11,10 +11,11 @@ resting-filter-requires c = (opening_tunes c.requires).0
 
 pub returns : goal.returns
 returns c =
-    let s = c.before in
+    let a = c.args in
     let f = c.resting-filter.result in
     let e = c.resting-filter.ensures in
-    let k = opening_tunes s.requires in (
-      rests f s.args.loss s.args.advance (ap tuning_of e.tuning) e.state,
-      rests_valid f s.args.loss s.args.advance e.tuned k.1 k.2,
-    )
+    let k = opening_tunes c.requires in
+    record {
+      line_value = rests f a.loss a.advance (ap tuning_of e.tuning) e.state;
+      valid = rests_valid f a.loss a.advance e.tuned k.1 k.2;
+    }

@@ -11,10 +11,11 @@ use Rattle.open.proofs.open.Lts as lts
 use Rattle.open.proofs.open.Reads as reads
 use Rattle.open.proofs.open.Tie as tie
 
-abbrev asked : (lts.Start tie.the-claims reads.Pre reads.Post) → Opening
-asked s =
-    let a = s.args in
-    record { N = a.order; L = a.length; d = a.delay; G = a.loss; Na = a.advance }
+module _ (s : lts.Start tie.the-claims reads.Pre reads.Post tie.handed_clauses) where
+  abbrev asked : Opening
+  asked =
+      let a = s.args in
+      record { N = a.order; L = a.length; d = a.delay; G = a.loss; Na = a.advance }
 
 turned_down : (c : goal.Then-code-ne0) → refusal (open_limits (asked c.before.before)) ≡ 0 → ⊥
 turned_down c z = c.if-code-ne0.true (c.refused-code.ensures ∙ z)
@@ -30,8 +31,8 @@ returns-then-code-ne0 c =
     let b = c.before in
     record {
       number = b.refused-code.ensures;
-      state = rw (opened-refused (asked b.before.before) (turned_down b)) c.fresh-v.ensures.0;
-      valid = c.fresh-v.ensures.1;
+      state = rw (opened-refused (asked b.before.before) (turned_down b)) c.fresh-v.ensures.line_value;
+      valid = c.fresh-v.ensures.valid;
     }
 
 pub fresh-v-requires-2 : goal.fresh-v-requires-2
@@ -42,6 +43,6 @@ returns c =
     let b = c.before in
     record {
       number = sym (taken b);
-      state = rw (opened-taken (asked b.before.before) (taken b)) c.fresh-v-2.ensures.0;
-      valid = c.fresh-v-2.ensures.1;
+      state = rw (opened-taken (asked b.before.before) (taken b)) c.fresh-v-2.ensures.line_value;
+      valid = c.fresh-v-2.ensures.valid;
     }

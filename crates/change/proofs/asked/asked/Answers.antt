@@ -1,8 +1,0 @@
--- `change::asked::asked` meets its contract: by what waits.
--- Assumes nothing.
-use mathlib.Core.Path.{◌∙◌, ap, sym}
-use borrow.Author.Rules.{rules}
-use Rattle.change.proofs.asked.asked.Goals as goal
-
-pub returns-in-Prepared : goal.returns-in-Prepared
-returns-in-Prepared c = rw c.w-1.given.1 c.one.ensures

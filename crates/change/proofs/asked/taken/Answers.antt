@@ -1,7 +1,0 @@
--- `change::asked::taken` meets its contract: by what waits.
--- Assumes nothing.
-use borrow.Author.Rules.{rules}
-use Rattle.change.proofs.asked.taken.Goals as goal
-
-pub returns-in-Prepared : goal.returns-in-Prepared
-returns-in-Prepared c = rw c.w-1.given.1
