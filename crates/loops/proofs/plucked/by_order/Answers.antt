@@ -7,21 +7,18 @@ use Rattle.loops.proofs.plucked.by_order.Goals as goal
 
 pub plucked-requires : goal.plucked-requires
 plucked-requires c =
-    let t = c.before.before in
-    let s = t.before.before in
-    ((s.requires.0.0, s.requires.0.1), ((sym t.if-h-eq1.true, s.requires.0.2), s.requires.1))
+    let v = c.requires.valid in
+    record { valid = (v.0, v.1); order_value = (sym c.if-h-eq1.true, v.2); from_value = c.requires.from_value }
 
 pub plucked-requires-then-h-eq2 : goal.plucked-requires-then-h-eq2
 plucked-requires-then-h-eq2 c =
-    let t = c.before.before in
-    let s = t.before.before.before.before in
-    ((s.requires.0.0, s.requires.0.1), ((sym t.if-h-eq2.true, s.requires.0.2), s.requires.1))
+    let v = c.requires.valid in
+    record { valid = (v.0, v.1); order_value = (sym c.if-h-eq2.true, v.2); from_value = c.requires.from_value }
 
 pub plucked-requires-2 : goal.plucked-requires-2
 plucked-requires-2 c =
-    let t = c.before.before in
-    let s = t.before.before.before.before in
-    let k = s.requires.0.0.fit.filter.takes in
-    let three : 3 ≡ s.args.h.filter.tuning.order
-    = omega (arith, k.least, k.most, t.if-h-eq2.false, t.if-h-eq1.false) in
-    ((s.requires.0.0, s.requires.0.1), ((three, s.requires.0.2), s.requires.1))
+    let v = c.requires.valid in
+    let k = v.0.fit.filter.takes in
+    let three : 3 ≡ c.args.h.filter.tuning.order
+    = omega (arith, k.least, k.most, c.if-h-eq2.false, c.if-h-eq1.false) in
+    record { valid = (v.0, v.1); order_value = (three, v.2); from_value = c.requires.from_value }

@@ -26,80 +26,70 @@ use Rattle.loops.proofs.plucked.plucked.Reads as reads
 use Rattle.loops.proofs.plucked.plucked.Tie as tie
 
 pub kept-v-requires : goal.kept-v-requires
-kept-v-requires c =
-    let s = c.before in
-    keeps s.args.h.filter s.requires.0.0.fit.filter s.requires.1.0.0
+kept-v-requires c = keeps c.args.h.filter c.requires.valid.0.fit.filter c.requires.order_value.0
 
 pub of_state-k-requires : goal.of_state-k-requires
 of_state-k-requires c =
-    let s = c.before.before in
-    let t = s.requires.0.0.fit.filter in
-    let e = sym (kept_anew s.args.h.filter t s.requires.1.0.0 c.kept-v.ensures) in
+    let t = c.requires.valid.0.fit.filter in
+    let e = sym (kept_anew c.args.h.filter t c.requires.order_value.0 c.kept-v.ensures) in
     tuned-fed (subst (λ (f : Filter). Tuned f) e t) {x = pos 0} (omega arith)
 
 pub loop-i-init : goal.loop-i-init
 loop-i-init c =
-    let w = c.before.before in
-    let k = w.before in
-    let s = k.before.before in
-    let h = s.args.h in
-    let f = anew_of s.args.order h.filter k.kept-v.result in
-    let z : (h.at + 0) % 2112 ≡ h.at = omega (arith, s.requires.0.0.fit.at) in
-    let e = kept_anew h.filter s.requires.0.0.fit.filter s.requires.1.0.0 k.kept-v.ensures in (
+    let h = c.args.h in
+    let v = c.requires.valid in
+    let o = c.requires.order_value in
+    let f = anew_of c.args.order h.filter c.kept-v.result in
+    let z : (h.at + 0) % 2112 ≡ h.at = omega (arith, v.0.fit.at) in
+    let e = kept_anew h.filter v.0.fit.filter o.0 c.kept-v.ensures in (
       started
-          (ap (λ (a : ℕ). left_of h f h.last h.pluck a) z ∙ carried_self h e s.requires.1.0.1)
-          s.requires.0.1
-          s.requires.0.0,
-      w.of_state-k.ensures,
+          (ap (λ (a : ℕ). left_of h f h.last h.pluck a) z ∙ carried_self h e o.1)
+          v.1
+          v.0,
+      c.of_state-k.ensures,
     )
 
--- where a c.before begins, or the loop ends
-module _ (p : (lts.At-loop tie.the-claims reads.Pre reads.Post goal.the-invariant-loop-i goal.the-decreases-loop-i)) where
-  abbrev start : (lts.Start tie.the-claims reads.Pre reads.Post goal.the-invariant-loop-i goal.the-decreases-loop-i)
-  start = p.before.before.before.before.before.before
-
-  same : length p.loop.buffer ≡ length start.args.buffer.now
+-- where a pass begins, or the loop ends
+module _ (c : lts.At-loop tie.the-claims reads.Pre reads.Post goal.the-invariant-loop-i goal.the-decreases-loop-i tie.handed_clauses) where
+  same : length c.loop-i.buffer ≡ length c.args.buffer.now
   same =
-      let l = p.loop in
-      as_long start.args.fed l.i l.buffer start.args.buffer.now l.inv.0.0.long
+      let l = c.loop-i in
+      as_long c.args.fed l.i l.buffer c.args.buffer.now l.invariant.0.0.long
 
--- a c.before of the loop
-module _ (c : (lts.In-loop tie.the-claims reads.Pre reads.Post goal.the-invariant-loop-i goal.the-decreases-loop-i)) where
-  abbrev first : (lts.Start tie.the-claims reads.Pre reads.Post goal.the-invariant-loop-i goal.the-decreases-loop-i)
-  first = start c.before
-
+-- a pass of the loop
+module _ (c : lts.In-loop tie.the-claims reads.Pre reads.Post goal.the-invariant-loop-i goal.the-decreases-loop-i tie.handed_clauses) where
   -- the filter, and the place of the next sample
   abbrev f : Filter
-  f = anew_of first.args.order first.args.h.filter c.loop-i.v
+  f = anew_of c.args.order c.args.h.filter c.loop-i.v
 
   abbrev at : ℕ
-  at = (first.args.h.at + c.loop-i.i) % 2112
+  at = (c.args.h.at + c.loop-i.i) % 2112
 
-  valid : Valid (left_of first.args.h f c.loop-i.last c.loop-i.p at) c.loop-i.line
-  valid = c.loop-i.inv.0.1
+  valid : Valid (left_of c.args.h f c.loop-i.last c.loop-i.p at) c.loop-i.line
+  valid = c.loop-i.invariant.0.1
 
-  left : c.loop-i.i < length (fed_of first.args.fed c.loop-i.i c.loop-i.buffer)
+  left : c.loop-i.i < length (fed_of c.args.fed c.loop-i.i c.loop-i.buffer)
   left =
       let l = c.loop-i in
-      omega (arith, c.loop-i-test.true, length-fed first.args.fed l.i l.buffer)
+      omega (arith, c.loop-i-test.true, length-fed c.args.fed l.i l.buffer)
 
-  more_left : c.loop-i.i < length first.args.buffer.now
+  more_left : c.loop-i.i < length c.args.buffer.now
   more_left = omega (arith, c.loop-i-test.true, same c.before)
 
-  here : first.args.h.at + c.loop-i.i ≡ at
-  here = omega (arith, more_left, first.requires.1.1.1.0)
+  here : c.args.h.at + c.loop-i.i ≡ at
+  here = omega (arith, more_left, c.requires.from_value.1.0)
 
   inside : at < 2112
   inside = valid.fit.at
 
-  place : first.args.from + c.loop-i.i ≡ (at + 2112 - f.tuning.length) % 2112
+  place : c.args.from + c.loop-i.i ≡ (at + 2112 - f.tuning.length) % 2112
   place =
-      let s = first.requires.1.1 in
+      let s = c.requires.from_value in
       let t = valid.fit.filter in
-      from_on first.args.h.at f.tuning.length first.args.from (length first.args.buffer.now)
+      from_on c.args.h.at f.tuning.length c.args.from (length c.args.buffer.now)
       c.loop-i.i s.1.0 s.1.1 more_left s.0 t.short t.long
 
-  next : (first.args.h.at + (c.loop-i.i + 1)) % 2112 ≡ (at + 1) % 2112
+  next : (c.args.h.at + (c.loop-i.i + 1)) % 2112 ≡ (at + 1) % 2112
   next = omega (arith, here)
 
 pub overflow_add-from : goal.overflow_add-from
@@ -110,27 +100,28 @@ overflow_add-from c =
 pub read-x-requires : goal.read-x-requires
 read-x-requires c =
     let l = c.before.before in
-    omega (arith, c.read-arg-in-loop-i-1.given.0, place l)
+    omega (arith, c.read-arg-in-loop-i-1.given, place l)
 
 -- once its sample is read
-module _ (c : goal.After-read-x) where
-  long : length (c.before c.before.before.before).loop.line ≡ 2112
-  long = c.read-arg-in-loop-i-1.given.0
+module _ (c : lts.After-read tie.the-claims reads.Pre reads.Post goal.the-invariant-loop-i goal.the-decreases-loop-i tie.handed_clauses) where
+  abbrev within : lts.In-loop tie.the-claims reads.Pre reads.Post goal.the-invariant-loop-i goal.the-decreases-loop-i tie.handed_clauses
+  within = c.before.before.before
+
+  long : length c.loop-i.line ≡ 2112
+  long = c.read-arg-in-loop-i-1.given
 
   small : nat_abs c.read-x.result.n ≤ M
   small =
-      let l = (c.before c.before.before.before).loop.line in
-      taken-small l (at c.before.before.before) long (inside c.before.before.before) (valid c.before.before.before).fit.filter (place c.before.before.before)
-      c.read-x.ensures (valid c.before.before.before).line
+      taken-small c.loop-i.line (at within) long (inside within) (valid within).fit.filter (place within)
+      c.read-x.ensures (valid within).line
 
 pub carry-t-requires : goal.carry-t-requires
-carry-t-requires c =
-    (tuned-fed (valid c.before.before.before).fit.filter (small c), (c.before.before.before.before).loop.inv.1)
+carry-t-requires c = (tuned-fed (valid (within c)).fit.filter (small c), c.loop-i.invariant.1)
 
--- once its output is c.before.before.before.before
-module _ (c : goal.After-clip-y) where
-  abbrev around : (lts.In-loop tie.the-claims reads.Pre reads.Post goal.the-invariant-loop-i goal.the-decreases-loop-i)
-  around = c.before.before.before.before.before
+-- once its output is clipped
+module _ (c : lts.After-clip tie.the-claims reads.Pre reads.Post goal.the-invariant-loop-i goal.the-decreases-loop-i tie.handed_clauses) where
+  abbrev around : lts.In-loop tie.the-claims reads.Pre reads.Post goal.the-invariant-loop-i goal.the-decreases-loop-i tie.handed_clauses
+  around = within c.before.before
 
   y-small : nat_abs c.clip-y.result.n ≤ M
   y-small =
@@ -138,12 +129,12 @@ module _ (c : goal.After-clip-y) where
 
   -- what comes in
   abbrev coming : ℤ
-  coming = input_of (first around).args.fed (c.before around).loop.buffer (c.before around).loop.i
+  coming = input_of c.args.fed c.loop-i.buffer c.loop-i.i
 
   input-small : nat_abs coming ≤ M
   input-small =
-      let l = (c.before around).loop in
-      reads l.inv.0 (left around) (input-fed (first around).args.fed l.buffer l.i)
+      let l = c.loop-i in
+      reads l.invariant.0 (left around) (input-fed c.args.fed l.buffer l.i)
 
 pub sound-o-requires : goal.sound-o-requires
 sound-o-requires c = (valid (around c)).fit.pluck
@@ -155,27 +146,26 @@ looped-b-requires c =
     (v.loss, y-small k, v.last)
 
 pub input-requires : goal.input-requires
-input-requires c = (around c.before.before.before).loop-test.true
+input-requires c = c.loop-i-test.true
 
 pub mixed-s-requires : goal.mixed-s-requires
-mixed-s-requires c =
-    let b = c.before.before in (
+mixed-s-requires c = (
       subst (λ (z : ℤ). nat_abs z ≤ M) (sym c.input.ensures) (input-small c.before.before.before.before),
-      b.sound-o.ensures.small,
-      b.looped-b.ensures.1,
+      c.sound-o.ensures.small,
+      c.looped-b.ensures.1,
     )
 
 -- once s(n) is made
-module _ (c : (lts.After-mixed tie.the-claims reads.Pre reads.Post goal.the-invariant-loop-i goal.the-decreases-loop-i)) where
-  abbrev heard : goal.After-clip-y
+module _ (c : lts.After-mixed tie.the-claims reads.Pre reads.Post goal.the-invariant-loop-i goal.the-decreases-loop-i tie.handed_clauses) where
+  abbrev heard : lts.After-clip tie.the-claims reads.Pre reads.Post goal.the-invariant-loop-i goal.the-decreases-loop-i tie.handed_clauses
   heard = c.before.before.before.before.before
 
-  abbrev over : (lts.In-loop tie.the-claims reads.Pre reads.Post goal.the-invariant-loop-i goal.the-decreases-loop-i)
+  abbrev over : lts.In-loop tie.the-claims reads.Pre reads.Post goal.the-invariant-loop-i goal.the-decreases-loop-i tie.handed_clauses
   over = around heard
 
   is-newest : c.mixed-s.result.n
       ≡ clip ((coming heard +ℤ c.sound-o.result.noise.n)
-      +ℤ Q (pos (first over).args.h.loss *ℤ (heard.clip-y.result.n +ℤ (c.before over).loop.last.n)))
+      +ℤ Q (pos c.args.h.loss *ℤ (c.clip-y.result.n +ℤ c.loop-i.last.n)))
   is-newest =
       let o = c.sound-o.result.noise.n in
       let b = c.looped-b in
@@ -185,8 +175,7 @@ module _ (c : (lts.After-mixed tie.the-claims reads.Pre reads.Post goal.the-inva
 
   newest-small : nat_abs c.mixed-s.result.n ≤ M
   newest-small =
-      let x = (c.input.result.n +ℤ c.sound-o.result.noise.n)
-      +ℤ c.looped-b.result.n in
+      let x = (c.input.result.n +ℤ c.sound-o.result.noise.n) +ℤ c.looped-b.result.n in
       subst (λ (z : ℤ). nat_abs z ≤ M) (sym c.mixed-s.ensures) (clip_abs x)
 
 pub overflow_add-at : goal.overflow_add-at
@@ -194,18 +183,17 @@ overflow_add-at c = let r = over c.before in omega (arith, here r, inside r)
 
 pub write-requires : goal.write-requires
 write-requires c =
-    let m = c.before in
+    let m = c.before.before in
     let r = over m in
-    (omega (arith, c.write-arg-1.given.0.1, here r, inside r), newest-small m)
+    (omega (arith, c.write-arg-1.given.1, here r, inside r), newest-small m)
 
 pub write-requires-in-loop-i : goal.write-requires-in-loop-i
-write-requires-in-loop-i c =
-    let m = c.before.before.before in
-    ((over m).loop-test.true, y-small (heard m))
+write-requires-in-loop-i c = (c.loop-i-test.true, y-small (heard c.before.before.before))
 
 pub overflow_add-i : goal.overflow_add-i
 overflow_add-i c =
-    let r = over c.before.before.before.before.before.before.before.before in omega (arith, more_left r, (first r).requires.1.1.1.0)
+    let r = over c.before.before.before.before.before.before.before.before in
+    omega (arith, more_left r, c.requires.from_value.1.0)
 
 pub loop-i-smaller : goal.loop-i-smaller
 loop-i-smaller c =
@@ -215,23 +203,21 @@ pub loop-i-preserved : goal.loop-i-preserved
 loop-i-preserved c =
     let k = c.before.before.before.before.before.before.before.before in
     let e = heard k in
-    let t = e.before in
+    let g = e.before.before in
     let r = over k in
-    let l = r.loop-i in
-    let s = (first r).args in
+    let l = c.loop-i in
+    let s = c.args in
     let h = s.h in
-    let y = e.clip-y.result in
-    let b = c.before.before.before.before in
-    let o = t.carry-t.ensures in
-    let g = t.before in
+    let y = c.clip-y.result in
+    let o = c.carry-t.ensures in
     let made = taken_circulates l.line (at r) (long g) (inside r) (valid r).fit.filter (place r)
-    g.read-x.ensures (small g) o.1 (y-small e)
-    (clip-kept y.n (y-small e) ∙ e.clip-y.ensures ∙ o.0) h.loss l.last.n (coming e)
-    (is-newest k) (here r) (next r) b.write.ensures in (
-      more l.inv.0 (left r) (input-fed s.fed l.buffer l.i)
-          (sung_steps h k.sound-o.ensures made (valid r))
-          (ap (fed_of s.fed (l.i + 1)) b.write-in-loop-i.ensures
-          ∙ set-fed s.fed l.i l.buffer y.n r.loop-i-test.true)
+    c.read-x.ensures (small g) o.1 (y-small e)
+    (clip-kept y.n (y-small e) ∙ c.clip-y.ensures ∙ o.0) h.loss l.last.n (coming e)
+    (is-newest k) (here r) (next r) c.write.ensures in (
+      more l.invariant.0 (left r) (input-fed s.fed l.buffer l.i)
+          (sung_steps h c.sound-o.ensures made (valid r))
+          (ap (fed_of s.fed (l.i + 1)) c.write-in-loop-i.ensures
+          ∙ set-fed s.fed l.i l.buffer y.n c.loop-i-test.true)
           refl,
       o.2,
     )
@@ -241,13 +227,12 @@ shape_of-buffer c = same c.before
 
 pub returns : goal.returns
 returns c =
-    let p = c.before in
-    let l = p.loop-i in
-    let s = (start p).args in
+    let l = c.loop-i in
+    let s = c.args in
     let h = s.h in
     let n = length-fed s.fed 0 s.buffer.now in
     let all : l.i ≡ length s.buffer.now
-    = omega (arith, c.loop-i-test.false, same p, l.invariant.0.0.within, n) in
+    = omega (arith, c.loop-i-test.false, same c.before, l.invariant.0.0.within, n) in
     subst
     (λ (n : ℕ). Went s.fed s.buffer.now h s.line.now l.buffer
     (sung_of h (record { state = l.v; last = l.last; rest = l.p }) n) l.line n)
@@ -255,5 +240,5 @@ returns c =
     (subst
     (λ (N : ℕ). Went s.fed s.buffer.now h s.line.now l.buffer
     (left_of h (anew_of N h.filter l.v) l.last l.p ((h.at + l.i) % 2112)) l.line l.i)
-    (start p).requires.1.0.0
+    c.requires.order_value.0
     l.invariant.0)

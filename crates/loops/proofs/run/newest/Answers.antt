@@ -15,17 +15,12 @@ kept {x} {b} {z} e i h = rw (e, ← i) (sym (ap clip (+ℤ_idl b) ∙ clip-kept 
 
 pub mixed-requires : goal.mixed-requires
 mixed-requires c =
-    let l = c.before in
-    let x = l.before in
-    (subst (λ (z : ℤ). nat_abs z ≤ M) (sym x.input-x.ensures) x.requires.0.1, omega arith, l.looped-b.ensures.1)
+    (subst (λ (z : ℤ). nat_abs z ≤ M) (sym c.input-x.ensures) c.requires.i_in_bounds.1, omega arith, c.looped-b.ensures.1)
 
 pub returns-then-fed : goal.returns-then-fed
-returns-then-fed c =
-    let l = c.before.before in
-    rw (← l.input-x.ensures, ← l.looped-b.ensures.0) c.mixed.ensures
+returns-then-fed c = rw (← c.input-x.ensures, ← c.looped-b.ensures.0) c.mixed.ensures
 
 pub returns : goal.returns
 returns c =
-    let l = c.before in
-    let s = l.args in
-    kept (none_in s.fed s.buffer.now s.i c.if-fed.false) l.looped-b.ensures.0 l.looped-b.ensures.1
+    let a = c.args in
+    kept (none_in a.fed a.buffer.now a.i c.if-fed.false) c.looped-b.ensures.0 c.looped-b.ensures.1

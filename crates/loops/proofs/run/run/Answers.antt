@@ -38,65 +38,54 @@ use Rattle.loops.proofs.run.run.Reads as reads
 use Rattle.loops.proofs.run.run.Tie as tie
 
 pub kept-v-requires : goal.kept-v-requires
-kept-v-requires c = keeps c.args.h.filter c.requires.0.0.fit.filter c.requires.1.0.0
+kept-v-requires c = keeps c.args.h.filter c.requires.valid.0.fit.filter c.requires.order_value.0
 
--- the state of the filter is all that is c.before.before.before.before.before.before.before.before.before of it
-is_state : (c : (lts.After-kept tie.the-claims reads.Pre reads.Post goal.the-invariant-loop-i goal.the-decreases-loop-i)) → c.kept-v.result ≡ c.args.h.filter.state
-is_state c =
-    let s = c.before in
-    kept_self s.args.h.filter s.requires.0.0.fit.filter s.requires.1.0.0 c.kept-v.ensures
+-- the state of the filter is all that is kept of it
+is_state : (c : lts.After-kept tie.the-claims reads.Pre reads.Post goal.the-invariant-loop-i goal.the-decreases-loop-i tie.handed_clauses) → c.kept-v.result ≡ c.args.h.filter.state
+is_state c = kept_self c.args.h.filter c.requires.valid.0.fit.filter c.requires.order_value.0 c.kept-v.ensures
 
 pub of_state-k-requires : goal.of_state-k-requires
 of_state-k-requires c =
-    let s = c.before in
-    let f = s.args.h.filter in
-    rw s.requires.1.0.0
-    (subst (λ (v : State). Fed f.tuning.order f.coefficients v (pos 0)) (sym (is_state c))
-    (tuned-fed s.requires.0.0.fit.filter {x = pos 0} (omega arith)))
+    let f = c.args.h.filter in
+    rw c.requires.order_value.0
+    (subst (λ (v : State). Fed f.tuning.order f.coefficients v (pos 0)) (sym (is_state c.before))
+    (tuned-fed c.requires.valid.0.fit.filter {x = pos 0} (omega arith)))
 
 pub kept-u-requires : goal.kept-u-requires
 kept-u-requires c =
-    let s = c.before.before in
-    let a = s.args in
-    keeps_ahead a.h.waiting a.coming (length a.buffer.now) a.h.advance a.e s.requires.1.0.2
-    s.requires.0.0.fit.waiting
+    let a = c.args in
+    keeps_ahead a.h.waiting a.coming (length a.buffer.now) a.h.advance a.e c.requires.order_value.2
+    c.requires.valid.0.fit.waiting
 
 pub loop-i-init : goal.loop-i-init
 loop-i-init c =
-    let j = c.before in
-    let q = j.before.before in
-    let s = q.before in
-    let h = s.args.h in
-    let fit = s.requires.0.0.fit in
-    let u = j.kept-u.result in
-    let n = length s.args.buffer.now in
-    let r = rests h.waiting s.args.coming n h.advance s.args.e u s.requires.1.0.2 fit.waiting
-    j.kept-u.ensures in (
-      started (begins h.waiting h q.kept-v.result u refl (is_state q) r fit.waiting fit.at)
-          s.requires.0.1 s.requires.0.0,
+    let a = c.args in
+    let h = a.h in
+    let v = c.requires.valid in
+    let o = c.requires.order_value in
+    let fit = v.0.fit in
+    let u = c.kept-u.result in
+    let n = length a.buffer.now in
+    let r = rests h.waiting a.coming n h.advance a.e u o.2 fit.waiting c.kept-u.ensures in (
+      started (begins h.waiting h c.kept-v.result u refl (is_state c.before.before.before.before.before) r fit.waiting fit.at)
+          v.1 v.0,
       c.of_state-k.ensures,
     )
 
--- where a c.before begins, or the loop ends
-module _ (p : (lts.At-loop tie.the-claims reads.Pre reads.Post goal.the-invariant-loop-i goal.the-decreases-loop-i)) where
-  abbrev start : (lts.Start tie.the-claims reads.Pre reads.Post goal.the-invariant-loop-i goal.the-decreases-loop-i)
-  start = p.before.before.before.before.before
-
+-- where a pass begins, or the loop ends
+module _ (c : lts.At-loop tie.the-claims reads.Pre reads.Post goal.the-invariant-loop-i goal.the-decreases-loop-i tie.handed_clauses) where
   abbrev led : Led
-  led = record { ran = record { state = p.loop.v; last = p.loop.last; done = p.loop.i }; next = p.loop.u }
+  led = record { ran = record { state = c.loop-i.v; last = c.loop-i.last; done = c.loop-i.i }; next = c.loop-i.u }
 
-  same : length p.loop.buffer ≡ length start.args.buffer.now
+  same : length c.loop-i.buffer ≡ length c.args.buffer.now
   same =
-      let l = p.loop in
-      as_long start.args.fed l.i l.buffer start.args.buffer.now l.inv.0.0.long
+      let l = c.loop-i in
+      as_long c.args.fed l.i l.buffer c.args.buffer.now l.invariant.0.0.long
 
--- a c.before of the loop: a change still waits
-module _ (c : (lts.In-loop tie.the-claims reads.Pre reads.Post goal.the-invariant-loop-i goal.the-decreases-loop-i)) where
-  abbrev first : (lts.Start tie.the-claims reads.Pre reads.Post goal.the-invariant-loop-i goal.the-decreases-loop-i)
-  first = start c.before
-
+-- a pass of the loop: a change still waits
+module _ (c : lts.In-loop tie.the-claims reads.Pre reads.Post goal.the-invariant-loop-i goal.the-decreases-loop-i tie.handed_clauses) where
   abbrev h : Head
-  h = first.args.h
+  h = c.args.h
 
   -- the filter, and the place of the next sample
   abbrev f : Filter
@@ -108,44 +97,44 @@ module _ (c : (lts.In-loop tie.the-claims reads.Pre reads.Post goal.the-invarian
   abbrev head : Head
   head = on_of h.waiting h (led c.before)
 
-  more_left : c.loop-i.i < length first.args.buffer.now
+  more_left : c.loop-i.i < length c.args.buffer.now
   more_left = omega (arith, c.loop-i-test.true, same c.before)
 
-  so_far : Passed (fed_of first.args.fed 0 first.args.buffer.now) (state_of h first.args.line.now)
-      (fed_of first.args.fed c.loop-i.i c.loop-i.buffer) head c.loop-i.line c.loop-i.i
+  so_far : Passed (fed_of c.args.fed 0 c.args.buffer.now) (state_of h c.args.line.now)
+      (fed_of c.args.fed c.loop-i.i c.loop-i.buffer) head c.loop-i.line c.loop-i.i
   so_far =
       let l = c.loop-i in
-      let a = first.args in
+      let a = c.args in
       let b = a.buffer.now in
       subst
       (λ (k : Head). Passed (fed_of a.fed 0 b) (state_of h a.line.now) (fed_of a.fed l.i l.buffer) k
       l.line l.i)
-      (still h.waiting h (led c.before) a.coming (length b) a.e first.requires.1.0.2 more_left)
-      l.inv.0
+      (still h.waiting h (led c.before) a.coming (length b) a.e c.requires.order_value.2 more_left)
+      l.invariant.0
 
   valid : Valid (ran_of h (led c.before).ran) c.loop-i.line
   valid = alone h.waiting h (led c.before) so_far.1
 
-  left : c.loop-i.i < length (fed_of first.args.fed c.loop-i.i c.loop-i.buffer)
+  left : c.loop-i.i < length (fed_of c.args.fed c.loop-i.i c.loop-i.buffer)
   left =
       let l = c.loop-i in
-      omega (arith, c.loop-i-test.true, length-fed first.args.fed l.i l.buffer)
+      omega (arith, c.loop-i-test.true, length-fed c.args.fed l.i l.buffer)
 
   here : h.at + c.loop-i.i ≡ at
-  here = omega (arith, more_left, first.requires.1.1.2.0)
+  here = omega (arith, more_left, c.requires.from_value.2.0)
 
   inside : at < 2112
   inside = valid.fit.at
 
-  place : first.args.from + c.loop-i.i ≡ (at + 2112 - f.tuning.length) % 2112
+  place : c.args.from + c.loop-i.i ≡ (at + 2112 - f.tuning.length) % 2112
   place =
-      let s = first.requires.1.1 in
+      let s = c.requires.from_value in
       let t = valid.fit.filter in
-      from_on h.at f.tuning.length first.args.from (length first.args.buffer.now)
+      from_on h.at f.tuning.length c.args.from (length c.args.buffer.now)
       c.loop-i.i s.2.0 s.2.1 more_left s.0 t.short t.long
 
-  far-inside : first.args.far + c.loop-i.i < 2112
-  far-inside = omega (arith, first.requires.1.1.1, first.requires.1.1.3.1, more_left)
+  far-inside : c.args.far + c.loop-i.i < 2112
+  far-inside = omega (arith, c.requires.from_value.1, c.requires.from_value.3.1, more_left)
 
   on : (h.at + (c.loop-i.i + 1)) % 2112 ≡ (at + 1) % 2112
   on = omega (arith, here)
@@ -158,53 +147,53 @@ overflow_add-from c =
 pub read-x-requires : goal.read-x-requires
 read-x-requires c =
     let l = c.before.before in
-    omega (arith, c.read-arg-in-loop-i-1.given.0, place l)
+    omega (arith, c.read-arg-in-loop-i-1.given, place l)
 
 pub overflow_add-far : goal.overflow_add-far
 overflow_add-far c = omega (arith, far-inside c.before.before.before.before.before)
 
 pub read-g-requires : goal.read-g-requires
 read-g-requires c =
-    omega (arith, c.read-arg-in-loop-i-3-1.given.0, far-inside c.before.before.before.before.before)
+    omega (arith, c.read-arg-in-loop-i-3-1.given, far-inside c.before.before.before.before.before)
 
 -- once its samples are read
-module _ (c : (lts.After-read2 tie.the-claims reads.Pre reads.Post goal.the-invariant-loop-i goal.the-decreases-loop-i)) where
-  abbrev within : (lts.In-loop tie.the-claims reads.Pre reads.Post goal.the-invariant-loop-i goal.the-decreases-loop-i)
+module _ (c : lts.After-read2 tie.the-claims reads.Pre reads.Post goal.the-invariant-loop-i goal.the-decreases-loop-i tie.handed_clauses) where
+  abbrev within : lts.In-loop tie.the-claims reads.Pre reads.Post goal.the-invariant-loop-i goal.the-decreases-loop-i tie.handed_clauses
   within = c.before.before.before.before.before.before
 
-  long : length (c.before within).loop.line ≡ 2112
-  long = c.read-arg-in-loop-i-1.given.0
+  long : length c.loop-i.line ≡ 2112
+  long = c.read-arg-in-loop-i-1.given
 
   small : nat_abs c.read-x.result.n ≤ M
   small =
-      let l = (c.before within).loop.line in
-      taken-small l (at within) long (inside within) (valid within).fit.filter (place within)
+      taken-small c.loop-i.line (at within) long (inside within) (valid within).fit.filter (place within)
       c.read-x.ensures (valid within).line
 
 pub carry-t-requires : goal.carry-t-requires
 carry-t-requires c =
-    let w = within c in
+    let g = c.before in
+    let w = within g in
     let x = c.read-x.result.n in (
-      subst (λ (N : ℕ). Fed N (h w).filter.coefficients w.loop-i.v x) (sym (first w).requires.1.0.0)
-          (tuned-fed (valid w).fit.filter (small c)),
-      w.loop-i.inv.1,
+      subst (λ (N : ℕ). Fed N (h w).filter.coefficients c.loop-i.v x) (sym c.requires.order_value.0)
+          (tuned-fed (valid w).fit.filter (small g)),
+      c.loop-i.invariant.1,
     )
 
 pub is_loud-requires : goal.is_loud-requires
 is_loud-requires c = c.heard-y.ensures.1
 
 pub shape_of-buffer-then-is_loud : goal.shape_of-buffer-then-is_loud
-shape_of-buffer-then-is_loud c = same (c.before (within c.before.before.before.before))
+shape_of-buffer-then-is_loud c = same (within c.before.before.before.before.before.before).before
 
 pub returns-then-is_loud : goal.returns-then-is_loud
-returns-then-is_loud c = (c.before (within c.before.before.before.before)).loop.inv.0
+returns-then-is_loud c = c.loop-i.invariant.0
 
 -- once its output is known to be within the limits
 module _ (c : goal.Else-is_loud) where
-  abbrev read : (lts.After-read2 tie.the-claims reads.Pre reads.Post goal.the-invariant-loop-i goal.the-decreases-loop-i)
-  read = c.before.before.before.before
+  abbrev read : lts.After-read2 tie.the-claims reads.Pre reads.Post goal.the-invariant-loop-i goal.the-decreases-loop-i tie.handed_clauses
+  read = c.before.before.before.before.before.before
 
-  abbrev around : (lts.In-loop tie.the-claims reads.Pre reads.Post goal.the-invariant-loop-i goal.the-decreases-loop-i)
+  abbrev around : lts.In-loop tie.the-claims reads.Pre reads.Post goal.the-invariant-loop-i goal.the-decreases-loop-i tie.handed_clauses
   around = within read
 
   -- the output
@@ -214,53 +203,48 @@ module _ (c : goal.Else-is_loud) where
   y-small : nat_abs y ≤ M
   y-small = leb-true (nat_abs y) M (not-false (leb (nat_abs y) M) (sym c.is_loud.ensures ∙ c.if-is_loud.false))
 
-  out-is : clip y ≡ out (taps_of (f around)) (filter_of (f around)) (c.before.before.before read).read.result.n
+  out-is : clip y ≡ out (taps_of (f around)) (filter_of (f around)) c.read-x.result.n
   out-is =
-      let a = (first around).args in
-      let x = (c.before.before.before read).read.result.n in
+      let x = c.read-x.result.n in
       c.heard-y.ensures.0
       ∙ subst
       (λ (N : ℕ). clip c.carry-t.result.y.n
-      ≡ out (taps N a.h.filter.coefficients) (held N (c.before around).loop.v) x)
-      (first around).requires.1.0.0
+      ≡ out (taps N c.args.h.filter.coefficients) (held N c.loop-i.v) x)
+      c.requires.order_value.0
       c.carry-t.ensures.0
 
   next-is : c.carry-t.result.state ≡ stored (next (taps_of (f around)) (filter_of (f around))
-      (c.before.before.before read).read.result.n)
+      c.read-x.result.n)
   next-is =
-      let a = (first around).args in
-      let x = (c.before.before.before read).read.result.n in
+      let x = c.read-x.result.n in
       subst
       (λ (N : ℕ). c.carry-t.result.state
-      ≡ stored (next (taps N a.h.filter.coefficients) (held N (c.before around).loop.v) x))
-      (first around).requires.1.0.0
+      ≡ stored (next (taps N c.args.h.filter.coefficients) (held N c.loop-i.v) x))
+      c.requires.order_value.0
       c.carry-t.ensures.1
 
-  input-small : nat_abs (input_of (first around).args.fed (c.before around).loop.buffer (c.before around).loop.i) ≤ M
+  input-small : nat_abs (input_of c.args.fed c.loop-i.buffer c.loop-i.i) ≤ M
   input-small =
-      let l = (c.before around).loop in
-      reads (so_far around) (left around) (input-fed (first around).args.fed l.buffer l.i)
+      let l = c.loop-i in
+      reads (so_far around) (left around) (input-fed c.args.fed l.buffer l.i)
 
 pub newest-s-requires : goal.newest-s-requires
 newest-s-requires c =
-    let e = c.before in
-    let r = around e in
+    let r = around c in
     let v = (valid r).fit in
-    ((r.loop-i-test.true, input-small e), (v.loss, y-small e, v.last))
+    record { i_in_bounds = (c.loop-i-test.true, input-small c); loss_bound = (v.loss, y-small c, v.last) }
 
 pub led-n-requires : goal.led-n-requires
 led-n-requires c =
     let t = read c.before.before in
     let r = within t in
-    let s = (first r).requires.1 in
-    let a = (first r).args in
-    feeds (h r).waiting (h r) (led r.before) a.coming (length a.buffer.now) a.e s.0.2
-    (so_far r).1 (long t) s.1.1 s.1.3 (more_left r) t.read-g.ensures
+    let s = c.requires.from_value in
+    let a = c.args in
+    feeds a.h.waiting a.h (led r.before) a.coming (length a.buffer.now) a.e c.requires.order_value.2
+    (so_far r).1 (long t) s.1 s.3 (more_left r) c.read-g.ensures
 
 pub write-requires : goal.write-requires
-write-requires c =
-    let e = c.before.before.before.before in
-    ((around e).loop-test.true, y-small e)
+write-requires c = (c.loop-i-test.true, y-small c.before.before.before.before)
 
 pub overflow_add-h : goal.overflow_add-h
 overflow_add-h c =
@@ -269,52 +253,50 @@ overflow_add-h c =
 
 pub write-requires-in-loop-i : goal.write-requires-in-loop-i
 write-requires-in-loop-i c =
-    let n = c.before.before.before.before.before.before in
-    let e = n.before.before in
+    let e = c.before.before.before.before.before.before.before.before in
     let r = around e in
-    let l = r.loop-i in
-    let a = (first r).args in
+    let l = c.loop-i in
+    let a = c.args in
     let x = input_of a.fed l.buffer l.i in
     let u = (x +ℤ pos 0) +ℤ Q (pos a.h.loss *ℤ (y e +ℤ l.last.n)) in (
       omega (arith, c.write-arg-in-loop-i-1.given.0.1, here r, inside r),
-      subst (λ (z : ℤ). nat_abs z ≤ M) (sym n.newest-s.ensures) (clip_abs u),
+      subst (λ (z : ℤ). nat_abs z ≤ M) (sym c.newest-s.ensures) (clip_abs u),
     )
 
 pub overflow_add-i : goal.overflow_add-i
 overflow_add-i c =
-    let r = around (c.before.before.before.before.before.before.before.before.before.before.before) in omega (arith, more_left r, (first r).requires.1.1.2.0)
+    let r = around c.before.before.before.before.before.before.before.before.before.before.before in
+    omega (arith, more_left r, c.requires.from_value.2.0)
 
 pub loop-i-smaller : goal.loop-i-smaller
 loop-i-smaller c =
-    let r = around (c.before.before.before.before.before.before.before.before.before.before.before) in omega (arith, more_left r)
+    let r = around c.before.before.before.before.before.before.before.before.before.before.before in
+    omega (arith, more_left r)
 
 pub loop-i-preserved : goal.loop-i-preserved
 loop-i-preserved c =
-    let b = c.before.before in
-    let k = b.before.before.before.before.before.before.before.before.before in
-    let t = k.before.before.before in
+    let k = c.before.before.before.before.before.before.before.before.before.before.before in
     let g = read k in
     let r = around k in
-    let l = r.loop-i in
-    let s = (first r).args in
-    let p = (first r).requires.1 in
+    let l = c.loop-i in
+    let s = c.args in
+    let p = c.requires.from_value in
+    let o = c.requires.order_value in
     let x = input_of s.fed l.buffer l.i in
-    let w = b.before.before.before.before in
-    let e = w.led-n in
-    let q = w.newest-s in
-    let o = t.carry-t.ensures in
+    let e = c.led-n in
+    let t = c.carry-t.ensures in
     let u = e.result in
     let made = taken_circulates l.line (at r) (long g) (inside r) (valid r).fit.filter (place r)
-    g.read-x.ensures (small g) (next-is k) (y-small k) (out-is k) s.h.loss l.last.n x
-    q.ensures (here r) (on r) b.write-in-loop-i.ensures in
-    let m = moves s.h.waiting s.h (led r.before) s.coming (length s.buffer.now) s.e u p.0.2
-    (so_far r).1 (long g) p.1.1 p.1.3 (more_left r) g.read-g.ensures e.ensures in (
+    c.read-x.ensures (small g) (next-is k) (y-small k) (out-is k) s.h.loss l.last.n x
+    c.newest-s.ensures (here r) (on r) c.write-in-loop-i.ensures in
+    let m = moves s.h.waiting s.h (led r.before) s.coming (length s.buffer.now) s.e u o.2
+    (so_far r).1 (long g) p.1 p.3 (more_left r) c.read-g.ensures e.ensures in (
       more (so_far r) (left r) (input-fed s.fed l.buffer l.i)
-          (goes s.h.waiting s.h (led r.before) u p.0.1 made m (so_far r).1)
-          (ap (fed_of s.fed (l.i + 1)) w.write.ensures
-          ∙ set-fed s.fed l.i l.buffer (y k) r.loop-i-test.true)
+          (goes s.h.waiting s.h (led r.before) u o.1 made m (so_far r).1)
+          (ap (fed_of s.fed (l.i + 1)) c.write.ensures
+          ∙ set-fed s.fed l.i l.buffer (y k) c.loop-i-test.true)
           refl,
-      o.2,
+      t.2,
     )
 
 pub shape_of-buffer : goal.shape_of-buffer

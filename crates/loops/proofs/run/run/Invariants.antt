@@ -37,7 +37,7 @@ use Rattle.loops.proofs.run.run.Given as goal
 abbrev pub invariant-loop-i : goal.invariant-loop-i
 invariant-loop-i l =
     Went l.fed l.initial.buffer l.h l.initial.line l.buffer
-    (after_of l.h (record { ran = record { state = l.v; l.last = l.last; done = l.i }; next = l.u })) l.line l.i
+    (after_of l.h (record { ran = record { state = l.v; last = l.last; done = l.i }; next = l.u })) l.line l.i
     × (l.k ≡ products_of l.order l.h.filter.coefficients l.v)
 
 abbrev pub decreases-loop-i : goal.decreases-loop-i
