@@ -29,12 +29,12 @@ use Rattle.loops.proofs.Carrying.{due-later, due_self, due_as}
 
 -- ---- which loop it is
 -- what `run` asks
-abbrev pub Asks : ℕ → ℕ → Bool → Head → Filter → ℕ → ℕ → List ℤ → List ℤ → Type 0
-Asks N K fed h e from far l b =
-    (Valid h l × (loudest (fed_of fed 0 b) ≤ M))
-    × (((N ≡ h.filter.tuning.order) × (h.pluck.left ≡ 0) × Leads h.waiting K e (length b) h.advance)
-    × ((from ≡ (h.at + 2112 - h.filter.tuning.length) % 2112) × (far ≡ (h.at + 2112 - e.tuning.length) % 2112)
-    × Apart h.at h.filter.tuning.length (length b) × Apart h.at e.tuning.length (length b)))
+pub record Asks (N K : ℕ) (fed : Bool) (h : Head) (e : Filter) (from far : ℕ) (l b : List ℤ) : Type 0 where
+  pub valid : Valid h l × (loudest (fed_of fed 0 b) ≤ M)
+  pub order_value : (N ≡ h.filter.tuning.order) × (h.pluck.left ≡ 0) × Leads h.waiting K e (length b) h.advance
+  pub from_value : (from ≡ (h.at + 2112 - h.filter.tuning.length) % 2112)
+      × (far ≡ (h.at + 2112 - e.tuning.length) % 2112)
+      × Apart h.at h.filter.tuning.length (length b) × Apart h.at e.tuning.length (length b)
 
 -- nothing waits, and no eliminator runs
 pub none_leads : (W : Waiting) (e : Filter) (n a : ℕ) → W ≡ Idle → Leads W 0 e n a

@@ -5,6 +5,5 @@ use Rattle.loops.proofs.while_idle.Goals as goal
 
 pub by_order-requires : goal.by_order-requires
 by_order-requires c =
-    let p = c.before.before in
-    let s = p.before.before in
-    (s.requires.0, ((s.requires.1.0, s.requires.1.1), (p.place-from.ensures, s.requires.1.2)))
+    let w = c.requires.waiting_value in
+    record { valid = c.requires.valid; waiting_value = (w.0, w.1); from_value = (c.place-from.ensures, w.2) }

@@ -12,65 +12,70 @@ use Rattle.loops.proofs.orders.by_order.Reads as reads
 use Rattle.loops.proofs.orders.by_order.Tie as tie
 
 -- what the loop asks, called with a number for the order and one for whether something comes in
-asks : (s : (lts.Start tie.the-claims reads.Pre reads.Post)) {N : ℕ} {b : Bool} → N ≡ s.args.h.filter.tuning.order → s.args.fed ≡ b
+asks : (s : lts.Start tie.the-claims reads.Pre reads.Post tie.handed_clauses) {N : ℕ} {b : Bool} → N ≡ s.args.h.filter.tuning.order → s.args.fed ≡ b
     → Asks N 0 b s.args.h s.args.h.filter s.args.from s.args.from s.args.line.now
     s.args.buffer.now
 asks s n f =
     let h = s.args.h in
-    let p = s.requires.1.1 in
-    let w = none_leads h.waiting h.filter (length s.args.buffer.now) h.advance s.requires.1.0.0 in
-    ((s.requires.0.0, rw f at s.requires.0.1), ((n, s.requires.1.0.1, w), (p.0, p.0, p.1, p.1)))
+    let p = s.requires.from_value in
+    let v = s.requires.valid in
+    let o = s.requires.waiting_value in
+    record {
+      valid = (v.0, rw f at v.1);
+      order_value = (n, o.1, none_leads h.waiting h.filter (length s.args.buffer.now) h.advance o.0);
+      from_value = (p.0, p.0, p.1, p.1);
+    }
 
-is-third : (s : (lts.Start tie.the-claims reads.Pre reads.Post)) → (s.args.h.filter.tuning.order ≡ 1 → ⊥)
+is-third : (s : lts.Start tie.the-claims reads.Pre reads.Post tie.handed_clauses) → (s.args.h.filter.tuning.order ≡ 1 → ⊥)
     → (s.args.h.filter.tuning.order ≡ 2 → ⊥) → 3 ≡ s.args.h.filter.tuning.order
-is-third s = let k = s.requires.0.0.fit.filter.takes in third s.args.h.filter.tuning.order k.least k.most
+is-third s = let k = s.requires.valid.0.fit.filter.takes in third s.args.h.filter.tuning.order k.least k.most
 
 pub run-requires : goal.run-requires
 run-requires c =
-    let f = c.before.before in
-    asks f.before.before (sym f.if-n-eq1.true) f.if-fed.true
+    let a = asks c.before.before.before.before.before (sym c.if-n-eq1.true) c.if-fed.true in
+    record { valid = a.valid; order_value = a.order_value; from_value = a.from_value }
 
 pub returns-then-fed : goal.returns-then-fed
 returns-then-fed c = rw c.if-fed.true c.run.ensures
 
 pub run-requires-then-n-eq1 : goal.run-requires-then-n-eq1
 run-requires-then-n-eq1 c =
-    let f = c.before.before in
-    asks f.before.before (sym f.if-n-eq1.true) f.if-fed.false
+    let a = asks c.before.before.before.before.before (sym c.if-n-eq1.true) c.if-fed.false in
+    record { valid = a.valid; order_value = a.order_value; from_value = a.from_value }
 
 pub returns-then-n-eq1 : goal.returns-then-n-eq1
 returns-then-n-eq1 c = rw c.if-fed.false c.run-then-n-eq1.ensures
 
 pub run-requires-then-fed-2 : goal.run-requires-then-fed-2
 run-requires-then-fed-2 c =
-    let f = c.before.before in
-    asks f.before.before.before (sym f.if-n-eq2.true) f.if-fed-2.true
+    let a = asks c.before.before.before.before.before.before (sym c.if-n-eq2.true) c.if-fed-2.true in
+    record { valid = a.valid; order_value = a.order_value; from_value = a.from_value }
 
 pub returns-then-fed-2 : goal.returns-then-fed-2
 returns-then-fed-2 c = rw c.if-fed-2.true c.run-then-fed-2.ensures
 
 pub run-requires-then-n-eq2 : goal.run-requires-then-n-eq2
 run-requires-then-n-eq2 c =
-    let f = c.before.before in
-    asks f.before.before.before (sym f.if-n-eq2.true) f.if-fed-2.false
+    let a = asks c.before.before.before.before.before.before (sym c.if-n-eq2.true) c.if-fed-2.false in
+    record { valid = a.valid; order_value = a.order_value; from_value = a.from_value }
 
 pub returns-then-n-eq2 : goal.returns-then-n-eq2
 returns-then-n-eq2 c = rw c.if-fed-2.false c.run-then-n-eq2.ensures
 
 pub run-requires-then-fed-3 : goal.run-requires-then-fed-3
 run-requires-then-fed-3 c =
-    let f = c.before.before in
-    let s = f.before.before.before in
-    asks s (is-third s f.if-n-eq1.false f.if-n-eq2.false) f.if-fed-3.true
+    let s = c.before.before.before.before.before.before in
+    let a = asks s (is-third s c.if-n-eq1.false c.if-n-eq2.false) c.if-fed-3.true in
+    record { valid = a.valid; order_value = a.order_value; from_value = a.from_value }
 
 pub returns-then-fed-3 : goal.returns-then-fed-3
 returns-then-fed-3 c = rw c.if-fed-3.true c.run-then-fed-3.ensures
 
 pub run-requires-2 : goal.run-requires-2
 run-requires-2 c =
-    let f = c.before.before in
-    let s = f.before.before.before in
-    asks s (is-third s f.if-n-eq1.false f.if-n-eq2.false) f.if-fed-3.false
+    let s = c.before.before.before.before.before.before in
+    let a = asks s (is-third s c.if-n-eq1.false c.if-n-eq2.false) c.if-fed-3.false in
+    record { valid = a.valid; order_value = a.order_value; from_value = a.from_value }
 
 pub returns : goal.returns
 returns c = rw c.if-fed-3.false c.run-2.ensures

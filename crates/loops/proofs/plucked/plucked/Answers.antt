@@ -121,7 +121,7 @@ carry-t-requires c = (tuned-fed (valid (within c)).fit.filter (small c), c.loop-
 -- once its output is clipped
 module _ (c : lts.After-clip tie.the-claims reads.Pre reads.Post goal.the-invariant-loop-i goal.the-decreases-loop-i tie.handed_clauses) where
   abbrev around : lts.In-loop tie.the-claims reads.Pre reads.Post goal.the-invariant-loop-i goal.the-decreases-loop-i tie.handed_clauses
-  around = within c.before.before
+  around = within c.before.before.before
 
   y-small : nat_abs c.clip-y.result.n ≤ M
   y-small =
@@ -183,7 +183,7 @@ overflow_add-at c = let r = over c.before in omega (arith, here r, inside r)
 
 pub write-requires : goal.write-requires
 write-requires c =
-    let m = c.before.before in
+    let m = c.before in
     let r = over m in
     (omega (arith, c.write-arg-1.given.1, here r, inside r), newest-small m)
 
@@ -203,7 +203,7 @@ pub loop-i-preserved : goal.loop-i-preserved
 loop-i-preserved c =
     let k = c.before.before.before.before.before.before.before.before in
     let e = heard k in
-    let g = e.before.before in
+    let g = e.before.before.before in
     let r = over k in
     let l = c.loop-i in
     let s = c.args in

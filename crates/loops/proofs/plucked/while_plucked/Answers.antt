@@ -31,7 +31,7 @@ returns c =
     ∙ ap (λ (f : Filter). left_of h f y p c.round.result) c.anew.ensures
     ∙ ap (λ (at : ℕ). left_of h f y p at) c.round.ensures in (
       subst
-          (λ (k : Head). Went s.fed s.buffer.now h s.line.now o.new.line k o.new.buffer n)
+          (λ (k : Head). Went s.fed s.buffer.now h s.line.now o.new.buffer k o.new.line n)
           (sym e)
           o.ensures,
       refl,
