@@ -23,22 +23,19 @@ module _ (c : (lts.After-bit5 tie.the-claims reads.Pre reads.Post)) where
       → Does s.head s.line.now (act_calls s.r.now (state_of s.head s.line.now)) a
       s.line.now
   made {a} o =
-      let e = c.before in
-      let f = e.before.before.before in
       let s = c.args in
-      let g = e.bit-3 in
-      let p = e.bit-4 in
-      let no = none_both g.result p.result e.if-bit-ne0.false in
-      let added = ap₂ (λ (x y : ℕ). x + y) f.bit.ensures f.bit-2.ensures in
+      let g = c.bit-3 in
+      let p = c.bit-4 in
+      let no = none_both g.result p.result c.if-bit-ne0.false in
+      let added = ap₂ (λ (x y : ℕ). x + y) c.bit.ensures c.bit-2.ensures in
       subst (λ (cs : List Call). Does s.head s.line.now cs a s.line.now)
       (change-alone s.r.now (state_of s.head s.line.now) (sym g.ensures ∙ no.0)
-      (λ z. f.if-bit-eq0.false (added ∙ z)) (sym p.ensures ∙ no.1))
+      (λ z. c.if-bit-eq0.false (added ∙ z)) (sym p.ensures ∙ no.1))
       (does-one s.head s.line.now o)
 
 pub returns : goal.returns
 returns c =
-    let t = c.before.before in
-    let s = t.args in
-    made t (on_as c.at_once.ensures
+    let s = c.args in
+    made c.before.before.before (on_as c.at_once.ensures
     (at_once s.r.now (state_of s.head s.line.now)
-    (λ z. c.if-bit-eq0-2.false (t.bit-5.ensures ∙ z))))
+    (λ z. c.if-bit-eq0-2.false (c.bit-5.ensures ∙ z))))

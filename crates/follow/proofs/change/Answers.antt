@@ -17,11 +17,9 @@ use Rattle.follow.proofs.change.Tie as tie
 
 pub returns-then-bit-eq0 : goal.returns-then-bit-eq0
 returns-then-bit-eq0 c =
-    let b = c.before in
-    let s = b.before.before.before in
-    let r = s.args.r.now in
-    part_none s.args.head s.args.line.now (Run.stands r 1 + Run.stands r 2) _ s.requires
-    (omega (arith, c.if-bit-eq0.true, b.bit-2.ensures, b.bit.ensures))
+    let r = c.args.r.now in
+    part_none c.args.head c.args.line.now (Run.stands r 1 + Run.stands r 2) _ c.requires
+    (omega (arith, c.if-bit-eq0.true, c.bit-2.ensures, c.bit.ensures))
 
 -- the call that was made, where L or d stands
 made : (c : (lts.After-bit3 tie.the-claims reads.Pre reads.Post)) {a : Answer} → let s = c.args in
@@ -29,25 +27,20 @@ made : (c : (lts.After-bit3 tie.the-claims reads.Pre reads.Post)) {a : Answer} �
     → Does s.head s.line.now (Run.change_calls s.r.now (state_of s.head s.line.now)) a
     s.line.now
 made c o =
-    let e = c.before in
-    let b = e.before in
-    let s = b.args in
+    let s = c.args in
     part-one s.head s.line.now (Run.stands s.r.now 1 + Run.stands s.r.now 2) _
-    (λ z. e.if-bit-eq0.false (omega (arith, z, b.bit-2.ensures, b.bit.ensures))) o
+    (λ z. c.if-bit-eq0.false (omega (arith, z, c.bit-2.ensures, c.bit.ensures))) o
 
 pub returns-then-bit-eq0-2 : goal.returns-then-bit-eq0-2
 returns-then-bit-eq0-2 c =
-    let t = c.before.before in
-    let s = t.before.before.before.before.before in
-    let l = s.args.line.now in
-    made t (on_as (c.announce.ensures l s.requires)
-    (announced s.args.r.now (state_of s.args.head l)
-    (sym t.bit-3.ensures ∙ c.if-bit-eq0-2.true)))
+    let l = c.args.line.now in
+    made c.before.before.before (on_as (c.announce.ensures l c.requires)
+    (announced c.args.r.now (state_of c.args.head l)
+    (sym c.bit-3.ensures ∙ c.if-bit-eq0-2.true)))
 
 pub returns : goal.returns
 returns c =
-    let t = c.before.before in
-    let s = t.args in
-    made t (on_as c.at_once.ensures
+    let s = c.args in
+    made c.before.before.before (on_as c.at_once.ensures
     (at_once s.r.now (state_of s.head s.line.now)
-    (λ z. c.if-bit-eq0-2.false (t.bit-3.ensures ∙ z))))
+    (λ z. c.if-bit-eq0-2.false (c.bit-3.ensures ∙ z))))

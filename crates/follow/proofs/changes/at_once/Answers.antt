@@ -10,10 +10,7 @@ use Rattle.follow.proofs.changes.at_once.Goals as goal
 
 pub returns : goal.returns
 returns c =
-    let d = c.before.before in
-    let n = d.before.before.before in
-    let i = n.before.before in
-    let s = i.args in
-    on_as c.instant-c.ensures.0
-    (ap (λ (t : Tuning). instant t) (tuned s.r.now (state_of s.head s.line.now) n.chosen-length.ensures
-    i.bit.ensures d.chosen-delay.ensures d.bit-2.ensures))
+    let s = c.args in
+    on_as c.instant-c.ensures.on
+    (ap (λ (t : Tuning). instant t) (tuned s.r.now (state_of s.head s.line.now) c.chosen-length.ensures
+    c.bit.ensures c.chosen-delay.ensures c.bit-2.ensures))
