@@ -6,7 +6,7 @@ ghost use Rattle.std.specs.Prelude.{◌≡◌, ℕ};
 ghost use Rattle.refusal.specs.Limits.{refusal as Refusal};
 ghost use Rattle.rule.specs.Voice.{tuning as Tuning};
 ghost use Rattle.outline.specs.Outline.{Outline, passed as Passed, waits as Waits, change_tests};
-ghost use Rattle.outline.specs.Outline.{result, loss_calls, pluck_calls};
+ghost use Rattle.outline.specs.Outline.{result as outcome, loss_calls, pluck_calls};
 ghost use Rattle.outline.specs.Struct.{ahead_of, outline_of, Order, Asks, after_change, Changes, Acts};
 ghost use Rattle.outline.specs.Struct.{Follows, PlaysAll};
 
@@ -49,7 +49,7 @@ pub struct RunEnd {
 
 // After n samples, however many they are.
 pub fn after_samples(c: Course, n: u32) -> Course
-    ensures* { λ r. ⌜ outline_of r ≡ Passed n (outline_of c) ⌝ }
+    ensures { outline_of result ≡ Passed n (outline_of c) }
 {
     let left = c.left;
     if left == 0 {
@@ -73,7 +73,7 @@ pub fn after_samples(c: Course, n: u32) -> Course
 
 // What the loss of a record is refused by: 4.
 fn loss_number(r: &[u32; 9]) -> u32
-    ensures* { λ n. ⌜ ((Na : ℕ) (o : Outline) → n ≡ result Na o (loss_calls r.now o)) ⌝ }
+    ensures { (Na : ℕ) (o : Outline) → result ≡ outcome Na o (loss_calls r.now o) }
 {
     if bit(r[MAP], HAS_LOSS) == 0 {
         return 0;
@@ -83,7 +83,7 @@ fn loss_number(r: &[u32; 9]) -> u32
 
 // What its pluck is refused by: 7, 8.
 fn pluck_number(r: &[u32; 9]) -> u32
-    ensures* { λ n. ⌜ ((Na : ℕ) (o : Outline) → n ≡ result Na o (pluck_calls r.now o)) ⌝ }
+    ensures { (Na : ℕ) (o : Outline) → result ≡ outcome Na o (pluck_calls r.now o) }
 {
     let map = r[MAP];
     if bit(map, HAS_AMPLITUDE) == 0 {
@@ -102,7 +102,7 @@ fn pluck_number(r: &[u32; 9]) -> u32
 
 // The L and d to which a record changes: an absent one is that in force.
 fn change_target(c: Course, r: &[u32; 9]) -> Span
-    ensures* { λ x. ⌜ Asks (outline_of c) r.now x ⌝ }
+    ensures { Asks (outline_of c) r.now result }
 {
     let map = r[MAP];
     Span {
@@ -113,7 +113,7 @@ fn change_target(c: Course, r: &[u32; 9]) -> Span
 
 // How many changes wait.
 fn waits(left: u32) -> u32
-    ensures* { λ r. ⌜ ((L d : ℕ) → r ≡ Waits (ahead_of L d left)) ⌝ }
+    ensures { (L d : ℕ) → result ≡ Waits (ahead_of L d left) }
 {
     if left == 0 { 0 } else { 1 }
 }
@@ -121,7 +121,7 @@ fn waits(left: u32) -> u32
 // What a change to L and d is refused by: 1, 2, 3, 6.
 fn change_number(order: u32, c: Course, to: Span) -> u32
     requires { Order order }
-    ensures* { λ r. ⌜ r ≡ Refusal (change_tests (outline_of c) (Tuning order to.length to.delay)) ⌝ }
+    ensures { result ≡ Refusal (change_tests (outline_of c) (Tuning order to.length to.delay)) }
 {
     let n = tested(0, refusal::ORDER, order, 1, refusal::ORDERS);
     let m = tested(n, refusal::LENGTH, to.length, 1, refusal::LONGEST);
@@ -137,7 +137,7 @@ fn change_number(order: u32, c: Course, to: Span) -> u32
 
 // The course after a change to L and d that is accepted.
 fn after_change(advance: u32, c: Course, to: Span, instant: u32) -> Course
-    ensures* { λ x. ⌜ outline_of x ≡ after_change advance (outline_of c) to.length to.delay instant ⌝ }
+    ensures { outline_of result ≡ after_change advance (outline_of c) to.length to.delay instant }
 {
     if advance == 0 {
         return Course {
@@ -164,7 +164,7 @@ fn after_change(advance: u32, c: Course, to: Span, instant: u32) -> Course
 // The change of a record after its wait.
 fn change(order: u32, advance: u32, c: Course, r: &[u32; 9]) -> Effect
     requires { Order order }
-    ensures* { λ x. ⌜ Changes order advance (outline_of c) r.now x ⌝ }
+    ensures { Changes order advance (outline_of c) r.now result }
 {
     let map = r[MAP];
     let to = change_target(c, r);
@@ -194,7 +194,7 @@ fn change(order: u32, advance: u32, c: Course, r: &[u32; 9]) -> Effect
 // What a record sets after its wait.
 fn act(order: u32, advance: u32, c: Course, r: &[u32; 9]) -> Effect
     requires { Order order }
-    ensures* { λ x. ⌜ Acts order advance (outline_of c) r.now x ⌝ }
+    ensures { Acts order advance (outline_of c) r.now result }
 {
     let a = change(order, advance, c, r);
     let span = a.span;
@@ -220,7 +220,7 @@ fn act(order: u32, advance: u32, c: Course, r: &[u32; 9]) -> Effect
 // A record: its wait, and what it sets.
 pub fn follow(order: u32, advance: u32, c: Course, r: &[u32; 9]) -> Effect
     requires { Order order }
-    ensures* { λ x. ⌜ Follows order advance (outline_of c) r.now x ⌝ }
+    ensures { Follows order advance (outline_of c) r.now result }
 {
     act(order, advance, after_samples(c, r[WAIT]), r)
 }
@@ -228,7 +228,7 @@ pub fn follow(order: u32, advance: u32, c: Course, r: &[u32; 9]) -> Effect
 // The records of a score on a course, given output enough.
 pub fn play(order: u32, advance: u32, start: Course, records: &[u8]) -> RunEnd
     requires { Order order }
-    ensures* { λ e. ⌜ PlaysAll order advance (outline_of start) records.now e ⌝ }
+    ensures { PlaysAll order advance (outline_of start) records.now result }
 {
     let mut c = start;
     let mut t = records;

@@ -7,3 +7,5 @@ pub mod Standing
 pub mod Ending
 pub mod Decided
 pub mod Answered
+
+

@@ -14,8 +14,18 @@ use Rattle.outline.proofs.play.Lts as lts
 use Rattle.outline.proofs.play.Reads as reads
 use Rattle.outline.proofs.play.Tie as tie
 
+abbrev Read : Type 0
+Read =
+    lts.After-read_record tie.the-claims reads.Pre reads.Post goal.the-invariant-loop-t goal.the-decreases-loop-t
+    tie.handed_clauses
+
+abbrev Followed : Type 0
+Followed =
+    lts.After-follow tie.the-claims reads.Pre reads.Post goal.the-invariant-loop-t goal.the-decreases-loop-t
+    tie.handed_clauses
+
 -- ---- once a record is read
-module _ (c : (lts.After-read_record tie.the-claims reads.Pre reads.Post goal.the-invariant-loop-t goal.the-decreases-loop-t)) where
+module _ (c : Read) where
   abbrev N : ℕ
   N = c.args.order
 
@@ -43,56 +53,61 @@ module _ (c : (lts.After-read_record tie.the-claims reads.Pre reads.Post goal.th
   some : 0 < length left
   some = c.loop-t-test.true
 
-  read : c.read_record-rest.new.1.0 ≡ fields left
-  read = c.read_record-rest.ensures.0
+  read : c.read_record-rest.new.fields ≡ fields left
+  read = c.read_record-rest.ensures.fields_after
 
-  number_is : get_or c.read_record-rest.new.1.0 0 0 ≡ record_number left
+  number_is : get_or c.read_record-rest.new.fields 0 0 ≡ record_number left
   number_is = read_number left read
 
 -- ---- once it is followed
-module _ (c : (lts.After-follow tie.the-claims reads.Pre reads.Post goal.the-invariant-loop-t goal.the-decreases-loop-t)) where
-  whole : record_number (left c.before.before.before) ≡ 0
-  whole = sym (number_is c.before.before.before) ∙ c.if-r-ne0.false
+module _ (c : Followed) where
+  abbrev place : Read
+  place = c.before.before.before
 
-  follows : Follows (N c.before.before.before) (Na c.before.before.before) (now c.before.before.before) (fields (left c.before.before.before)) c.follow-a.result
+  whole : record_number (left place) ≡ 0
+  whole = sym (number_is place) ∙ c.if-r-ne0.false
+
+  follows : Follows (N place) (Na place) (now place) (fields (left place)) c.follow-a.result
   follows =
-      subst (λ (l : List ℕ). Follows (N c.before.before.before) (Na c.before.before.before) (now c.before.before.before) l c.follow-a.result) (read c.before.before.before) c.follow-a.ensures
+      subst (λ (l : List ℕ). Follows (N place) (Na place) (now place) l c.follow-a.result) (read place)
+      c.follow-a.ensures
 
 pub loop-t-init : goal.loop-t-init
 loop-t-init c = begun c.args.order c.args.advance c.args.records.now (outline_of c.args.start)
 
 pub returns-then-r-ne0 : goal.returns-then-r-ne0
 returns-then-r-ne0 c =
-    let c.before.before.before = c.before in
-    refused (N c.before.before.before) (Na c.before.before.before) (bytes c.before.before.before) (start c.before.before.before) (now c.before.before.before) (left c.before.before.before) (index c.before.before.before) (playing c.before.before.before) (some c.before.before.before) (number_is c.before.before.before) c.if-r-ne0.true
+    let r = c.before.before in
+    refused (N r) (Na r) (bytes r) (start r) (now r) (left r) (index r) (playing r) (some r) (number_is r) c.if-r-ne0.true
 
 pub returns-then-a-ne0 : goal.returns-then-a-ne0
 returns-then-a-ne0 c =
     let f = c.before.before in
-    let c.before.before.before = f.before.before.before in
-    stopped (N c.before.before.before) (Na c.before.before.before) (bytes c.before.before.before) (start c.before.before.before) (now c.before.before.before) (left c.before.before.before) (index c.before.before.before) (playing c.before.before.before) (some c.before.before.before) (whole f)
+    let r = place f in
+    stopped (N r) (Na r) (bytes r) (start r) (now r) (left r) (index r) (playing r) (some r) (whole f)
     (follows f).number c.if-a-ne0.true
 
 pub overflow_add-index : goal.overflow_add-index
 overflow_add-index c =
-    let c.before.before.before = c.before.before.before.before.before.before in
-    omega (arith, some c.before.before.before, (playing c.before.before.before).few, c.good)
+    let r = place c.before.before in
+    omega (arith, some r, (playing r).few)
 
 pub loop-t-smaller : goal.loop-t-smaller
 loop-t-smaller c =
-    let c.before.before.before = c.before.before.before.before.before.before in
-    subst (λ (l : List ℕ). length l < length (left c.before.before.before)) (sym c.read_record-rest.ensures.1)
-    (shorter (left c.before.before.before) (some c.before.before.before) (whole c.before.before.before))
+    let f = c.before.before in
+    let r = place f in
+    subst (λ (l : List ℕ). length l < length (left r)) (sym r.read_record-rest.ensures.result_value)
+    (shorter (left r) (some r) (whole f))
 
 pub loop-t-preserved : goal.loop-t-preserved
 loop-t-preserved c =
-    let f = c.before.before.before in
-    let c.before.before.before = c.before.before.before.before.before.before in
+    let f = c.before.before in
+    let r = place f in
     let h = follows f in
     let z = c.if-a-ne0.false in
-    subst (λ (l : List ℕ). Playing (N c.before.before.before) (Na c.before.before.before) (bytes c.before.before.before) (start c.before.before.before) (outline_of f.follow-a.result.course) l (index c.before.before.before + 1))
-    (sym c.read_record-rest.ensures.1)
-    (goes_on (N c.before.before.before) (Na c.before.before.before) (bytes c.before.before.before) (start c.before.before.before) (now c.before.before.before) (left c.before.before.before) (index c.before.before.before) (playing c.before.before.before) (some c.before.before.before) (whole f)
+    subst (λ (l : List ℕ). Playing (N r) (Na r) (bytes r) (start r) (outline_of f.follow-a.result.course) l (index r + 1))
+    (sym r.read_record-rest.ensures.result_value)
+    (goes_on (N r) (Na r) (bytes r) (start r) (now r) (left r) (index r) (playing r) (some r) (whole f)
     (sym h.number ∙ z) (h.course_is z))
 
 pub returns : goal.returns

@@ -1,0 +1,104 @@
+-- The loop of `score::play`: what is known in it of a record, once its number is known, and once its wait is.
+-- proofs/play/Invariants.antt has the invariant. Assumes nothing.
+use mathlib.Core.Path.{◌≡◌, sym, ap, ◌∙◌}
+use mathlib.Core.List.{List, [], ◌∷◌, ◌++◌}
+use Prim.Native.Nat.{ℕ, ◌+◌, ◌-◌, ◌≤◌, ◌<◌}
+use native.Mathlib.Omega.{arith}
+use lib.IntN.{ℤ}
+use lib.ListN.{length}
+use Rattle.refusal.specs.Limits.{refusal}
+use Rattle.rule.specs.State.{State}
+use Rattle.voice.specs.declared.Head.{Head}
+use Rattle.voice.specs.Struct.{state_of}
+use Rattle.record.specs.Record.{record_limits, fields}
+use Rattle.follow.specs.Follow.{value}
+use Rattle.score.specs.Run.{fits, play_limits}
+use Rattle.score.proofs.Playing.{Playing, read_number, has_room}
+use Rattle.score.proofs.play.Goals as goal
+use Rattle.score.proofs.play.Lts as lts
+use Rattle.score.proofs.play.Reads as reads
+use Rattle.score.proofs.play.Tie as tie
+
+-- ---- the places of the loop that the proofs speak of
+abbrev pub Numbered : Type 1
+Numbered = lts.After-refused tie.the-claims reads.Pre reads.Post goal.the-invariant-loop-t goal.the-decreases-loop-t
+
+abbrev pub Waits-read : Type 1
+Waits-read = lts.After-as_length tie.the-claims reads.Pre reads.Post goal.the-invariant-loop-t goal.the-decreases-loop-t
+
+abbrev pub Begun : Type 1
+Begun = lts.After-begin tie.the-claims reads.Pre reads.Post goal.the-invariant-loop-t goal.the-decreases-loop-t
+
+abbrev pub Kept : Type 1
+Kept = lts.After-after tie.the-claims reads.Pre reads.Post goal.the-invariant-loop-t goal.the-decreases-loop-t
+
+abbrev pub Rendered : Type 1
+Rendered = lts.Joined2 tie.the-claims reads.Pre reads.Post goal.the-invariant-loop-t goal.the-decreases-loop-t
+
+-- ---- before a record, once its number is known
+module _ (c : Numbered) where
+  abbrev pub bytes : List ℕ
+  bytes = c.args.records.now
+
+  abbrev pub opened : State
+  opened = state_of c.args.head c.args.line.now
+
+  abbrev pub lent : List ℤ
+  lent = c.args.output.now
+
+  abbrev pub head : Head
+  head = c.loop-t.head
+
+  abbrev pub line : List ℤ
+  line = c.loop-t.line
+
+  abbrev pub voice : State
+  voice = state_of head line
+
+  abbrev pub left : List ℕ
+  left = c.loop-t.t.now
+
+  abbrev pub index : ℕ
+  index = c.loop-t.index
+
+  abbrev pub done : ℕ
+  done = c.loop-t.done
+
+  abbrev pub output : List ℤ
+  output = c.loop-t.output
+
+  pub playing : Playing bytes opened lent voice left index done output
+  playing = c.loop-t.invariant.0
+
+  pub some : 0 < length left
+  some = c.loop-t-test.true
+
+  pub read : c.read_record-rest.new.fields ≡ fields left
+  read = c.read_record-rest.ensures.fields_after
+
+  pub number_is : c.refused-code.result ≡ refusal (play_limits left (length lent - done))
+  number_is =
+      c.refused-code.ensures (record_limits left) tt (read_number left read)
+      ∙ ap (λ (l : List ℕ). refusal (record_limits left ++ fits l (length output - done) ∷ [])) read
+      ∙ ap (λ (n : ℕ). refusal (play_limits left (n - done))) c.loop-t.invariant.2
+
+-- ---- a record that is not refused
+module _ (c : Waits-read) where
+  abbrev pub numbered : Numbered
+  numbered = c.before.before
+
+  pub wait-is : c.as_length-wait.result ≡ value (fields (left numbered)) 0
+  wait-is = c.as_length-wait.ensures ∙ ap (λ (l : List ℕ). value l 0) (read numbered)
+
+  pub taken : refusal (play_limits (left numbered) (length (lent numbered) - done numbered)) ≡ 0
+  taken = sym (number_is numbered) ∙ c.if-code-ne0.false
+
+  pub room : done numbered + c.as_length-wait.result ≤ length (output numbered)
+  room =
+      let r = numbered in omega (
+        arith,
+        wait-is,
+        (has_room (left r) (length (lent r) - done r) taken).1,
+        (playing r).within,
+        r.loop-t.invariant.2,
+      )
