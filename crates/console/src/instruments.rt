@@ -8,13 +8,19 @@ use crate::rows::{call_string, load_string, store_string};
 use crate::shown::{past, state};
 use crate::start::returned;
 use packed::unpack;
-use print::{file, number, short};
+use print::{Out, file, number, short};
 use request::Request;
 use request::kinds::{LINE, LOAD, STATE, STORE};
 use request::lists::samples;
 
 // A string's state.
-fn string_state(heads: &[[u32; 27]; 6], out: Out, buffer: &mut [u8; 4096], at: usize, string: u32) -> usize {
+fn string_state(
+    heads: &[[u32; 27]; 6],
+    out: Out,
+    buffer: &mut [u8; 4096],
+    at: usize,
+    string: u32,
+) -> usize {
     if 5 < string {
         return at;
     }
@@ -26,7 +32,8 @@ fn string_state(heads: &[[u32; 27]; 6], out: Out, buffer: &mut [u8; 4096], at: u
 fn string_line(
     heads: &[[u32; 27]; 6],
     lines: &[[i32; 2112]; 6],
-    out: Out, buffer: &mut [u8; 4096],
+    out: Out,
+    buffer: &mut [u8; 4096],
     at: usize,
     string: u32,
     count: usize,
@@ -45,7 +52,8 @@ fn string_line(
 fn string_form(
     heads: &[[u32; 27]; 6],
     lines: &[[i32; 2112]; 6],
-    out: Out, buffer: &mut [u8; 4096],
+    out: Out,
+    buffer: &mut [u8; 4096],
     at: usize,
     string: u32,
     places: usize,
@@ -63,7 +71,8 @@ fn string_form(
 pub fn turn_string(
     heads: &mut [[u32; 27]; 6],
     lines: &mut [[i32; 2112]; 6],
-    out: Out, buffer: &mut [u8; 4096],
+    out: Out,
+    buffer: &mut [u8; 4096],
     at: usize,
     s: &[u8],
     l: Request,
@@ -108,7 +117,8 @@ fn mix_first(
 pub fn turn_mix(
     heads: &mut [[u32; 27]; 6],
     lines: &mut [[i32; 2112]; 6],
-    out: Out, buffer: &mut [u8; 4096],
+    out: Out,
+    buffer: &mut [u8; 4096],
     at: usize,
     s: &[u8],
     l: Request,

@@ -4,7 +4,7 @@ ghost use Rattle.std.specs.Prelude.{◌≡◌, ◌≤◌};
 
 use help::wrong;
 use input::front;
-use print::{bytes, flush};
+use print::{Out, bytes, flush};
 use request::kinds::LONG;
 use voice::Head;
 

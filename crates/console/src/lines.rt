@@ -9,6 +9,7 @@ ghost use Rattle.strings.specs.Rows.{Voices};
 use crate::kept::{Kept, ROOM, rest, written};
 use crate::turn::answered;
 use crate::voices::Turn;
+use print::Out;
 use voice::Head;
 use words::before;
 use words::pieces::bare;
@@ -28,7 +29,8 @@ fn one(
     junction: &mut [u32; 16],
     heads: &mut [[u32; 27]; 6],
     lines: &mut [[i32; 2112]; 6],
-    out: Out, buffer: &mut [u8; 4096],
+    out: Out,
+    buffer: &mut [u8; 4096],
     at: usize,
     s: &[u8],
     index: u64,
@@ -63,7 +65,8 @@ fn whole(
     heads: &mut [[u32; 27]; 6],
     lines: &mut [[i32; 2112]; 6],
     k: Kept,
-    out: Out, buffer: &mut [u8; 4096],
+    out: Out,
+    buffer: &mut [u8; 4096],
     s: &[u8],
 ) -> Kept
     requires { Valid k.head line.old × Joined (from_words junction.old)
@@ -118,7 +121,8 @@ pub fn came(
     heads: &mut [[u32; 27]; 6],
     lines: &mut [[i32; 2112]; 6],
     k: Kept,
-    out: Out, buffer: &mut [u8; 4096],
+    out: Out,
+    buffer: &mut [u8; 4096],
     room: &mut [u8; ROOM],
     held: usize,
 ) -> Kept

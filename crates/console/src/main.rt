@@ -27,9 +27,10 @@ use calls::opened;
 use input::more;
 use kept::{Kept, ROOM};
 use lines::came;
-use print::flush;
+use print::{Out, complain, flush};
 use request::kinds::EMPTY;
 use request::plain;
+use std::io::Stdin;
 use tubes::open_junction;
 use turn::answered;
 
@@ -47,7 +48,8 @@ fn last(
     heads: &mut [[u32; 27]; 6],
     lines: &mut [[i32; 2112]; 6],
     k: Kept,
-    out: Out, buffer: &mut [u8; 4096],
+    out: Out,
+    buffer: &mut [u8; 4096],
     room: &[u8; ROOM],
 ) -> usize
     requires { Valid k.head line.old × Joined (from_words junction.old)
@@ -73,44 +75,41 @@ fn last(
     r.at
 }
 
-// Says that standard output did not take all, where the place in the buffer says so.
-fn complain(at: usize) {
-    if 4_096 < at {
-        os::fail(b"console: standard output");
-    }
-}
-
-// No more comes: the last line is answered, or it is said that the read failed.
+// No more comes: the last line is answered, or it is said that the read failed, by the system's number of the error.
 fn finish(
     line: &mut [i32; 2112],
     junction: &mut [u32; 16],
     heads: &mut [[u32; 27]; 6],
     lines: &mut [[i32; 2112]; 6],
     k: Kept,
-    out: Out, buffer: &mut [u8; 4096],
+    out: Out,
+    buffer: &mut [u8; 4096],
     room: &[u8; ROOM],
     failed: bool,
+    code: i32,
 )
     requires { Valid k.head line.old × Joined (from_words junction.old)
         × Voices heads.old lines.old × (k.held ≤ 1048577) }
 {
     if failed {
-        os::fail(b"console: standard input");
+        complain(out, b"standard input", code);
         return;
     }
     let at = last(line, junction, heads, lines, k, out, buffer, room);
-    complain(flush(out, buffer, at));
+    flush(out, buffer, at);
 }
 
 // Reads and answers until the input ends, a read fails, or standard output takes no more. A loop must end, so it
 // ends after 2^64 - 1 reads too.
 fn answer(
+    from: Stdin,
     line: &mut [i32; 2112],
     junction: &mut [u32; 16],
     heads: &mut [[u32; 27]; 6],
     lines: &mut [[i32; 2112]; 6],
     mut k: Kept,
-    out: Out, buffer: &mut [u8; 4096],
+    out: Out,
+    buffer: &mut [u8; 4096],
     room: &mut [u8; ROOM],
 )
     requires { Valid k.head line.old × Joined (from_words junction.old)
@@ -119,9 +118,11 @@ fn answer(
     let mut turns: u64 = 18_446_744_073_709_551_615;
     while 0 < turns {
         turns = turns - 1;
-        let r = more(room, k.held);
+        let r = more(from, room, k.held);
         if r.held <= k.held {
-            finish(line, junction, heads, lines, k, out, buffer, room, r.failed);
+            finish(
+                line, junction, heads, lines, k, out, buffer, room, r.failed, r.code,
+            );
             return;
         }
         let n = came(line, junction, heads, lines, k, out, buffer, room, r.held);
@@ -130,11 +131,15 @@ fn answer(
             break;
         }
     }
-    complain(k.at);
 }
 
 // Before they are opened, the voice, the junction and the strings are those of a refused opening.
-fn main() {
+fn main(rt: HostRuntime) {
+    let out = Out {
+        to: rt.stdout(),
+        told: rt.stderr(),
+        program: b"console",
+    };
     let mut line = [0i32; 2112];
     let mut buffer = [0u8; 4096];
     let mut room = line_room();
@@ -153,6 +158,7 @@ fn main() {
         long: false,
     };
     answer(
+        rt.stdin(),
         &mut line,
         &mut junction,
         &mut heads,

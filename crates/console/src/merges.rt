@@ -3,7 +3,7 @@
 ghost use Rattle.std.specs.Prelude.{◌≤◌, length};
 
 use merge::MergeEnd;
-use print::{file, number, short};
+use print::{Out, file, number, short};
 use request::lists::{bytes, bytes_room};
 use request::pairs::{first_list, second_list};
 
@@ -35,7 +35,14 @@ fn merge_lists(s: &[u8], lent: &mut [u8; 32768], places: usize) -> MergeEnd
 }
 
 // The answer to a line that asks for a merge, whose scores stand from a place on.
-pub fn merge(out: Out, buffer: &mut [u8; 4096], at: usize, s: &[u8], list: usize, places: usize) -> usize
+pub fn merge(
+    out: Out,
+    buffer: &mut [u8; 4096],
+    at: usize,
+    s: &[u8],
+    list: usize,
+    places: usize,
+) -> usize
     requires { (list ≤ length s.now) × (places ≤ 32768) }
 {
     let mut lent = [77u8; 32768];

@@ -2,7 +2,7 @@
 // Its output is lent with 77 at each place.
 ghost use Rattle.std.specs.Prelude.{◌≤◌, length};
 
-use print::{number, samples, short};
+use print::{Out, number, samples, short};
 use request::lists::{bytes, bytes_room};
 use score::Played;
 
@@ -24,7 +24,14 @@ fn performed(s: &[u8], list: usize, output: &mut [i32; 32768], places: usize) ->
 }
 
 // The answer to a line that asks for a run.
-pub fn run(out: Out, buffer: &mut [u8; 4096], at: usize, s: &[u8], list: usize, places: usize) -> usize
+pub fn run(
+    out: Out,
+    buffer: &mut [u8; 4096],
+    at: usize,
+    s: &[u8],
+    list: usize,
+    places: usize,
+) -> usize
     requires { (list ≤ length s.now) × (places ≤ 32768) }
 {
     let mut output = [77i32; 32768];

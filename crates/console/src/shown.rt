@@ -4,7 +4,7 @@ ghost use Rattle.std.specs.Prelude.{◌<◌};
 
 use allpass::State;
 use integer::Value;
-use print::{pair, signed, triple};
+use print::{Out, pair, signed, triple};
 use voice::{Filter, Head, Kind, Pluck, Waiting};
 
 // The three numbers of a filter's state, 0 past the order.
@@ -46,8 +46,22 @@ fn pluck(out: Out, buffer: &mut [u8; 4096], at: usize, p: Pluck) -> usize {
 }
 
 // N, L and d of the filter in force, G and Na.
-fn force(out: Out, buffer: &mut [u8; 4096], at: usize, f: Filter, loss: u32, advance: u32) -> usize {
-    let a = triple(out, buffer, at, f.tuning.order, f.tuning.length, f.tuning.delay);
+fn force(
+    out: Out,
+    buffer: &mut [u8; 4096],
+    at: usize,
+    f: Filter,
+    loss: u32,
+    advance: u32,
+) -> usize {
+    let a = triple(
+        out,
+        buffer,
+        at,
+        f.tuning.order,
+        f.tuning.length,
+        f.tuning.delay,
+    );
     pair(out, buffer, a, loss, advance)
 }
 
@@ -68,7 +82,8 @@ pub fn state(out: Out, buffer: &mut [u8; 4096], at: usize, h: Head) -> usize {
 
 // s(n − 1), s(n − 2) and so on, as many as count.
 pub fn past(
-    out: Out, buffer: &mut [u8; 4096],
+    out: Out,
+    buffer: &mut [u8; 4096],
     place: usize,
     line: &[i32; 2112],
     at: usize,

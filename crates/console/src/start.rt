@@ -1,7 +1,7 @@
 // How an answer starts: the line's name, or `error`, and the numbers of a call.
 // What follows is printed by the routine that was called.
 use help::error;
-use print::{bytes, short};
+use print::{Out, bytes, short};
 use request::Request;
 use request::kinds::{ERROR, INSTANT};
 use request::table::TABLE;
@@ -29,11 +29,23 @@ fn string_name(out: Out, buffer: &mut [u8; 4096], at: usize, string: u32, kind: 
     let a = bytes(out, buffer, at, b"string");
     let b = short(out, buffer, a, string);
     let c = bytes(out, buffer, b, b" ");
-    bytes(out, buffer, c, ahead(piece(&TABLE, b'\n', place(kind)), b' '))
+    bytes(
+        out,
+        buffer,
+        c,
+        ahead(piece(&TABLE, b'\n', place(kind)), b' '),
+    )
 }
 
 // The name of a line that is right; `error`, the number and what was expected of one that is wrong.
-pub fn start(out: Out, buffer: &mut [u8; 4096], at: usize, s: &[u8], index: u64, l: Request) -> usize {
+pub fn start(
+    out: Out,
+    buffer: &mut [u8; 4096],
+    at: usize,
+    s: &[u8],
+    index: u64,
+    l: Request,
+) -> usize {
     if l.kind == ERROR {
         return error(out, buffer, at, s, index);
     }
@@ -44,7 +56,14 @@ pub fn start(out: Out, buffer: &mut [u8; 4096], at: usize, s: &[u8], index: u64,
 }
 
 // What a call returned: its number, and the count of an instant change.
-pub fn returned(out: Out, buffer: &mut [u8; 4096], at: usize, kind: u32, refusal: u32, count: u32) -> usize {
+pub fn returned(
+    out: Out,
+    buffer: &mut [u8; 4096],
+    at: usize,
+    kind: u32,
+    refusal: u32,
+    count: u32,
+) -> usize {
     let a = short(out, buffer, at, refusal);
     if kind == INSTANT {
         return short(out, buffer, a, count);

@@ -5,7 +5,7 @@ ghost use Rattle.voice.specs.Valid.{Valid};
 ghost use Rattle.request.specs.InLine.{InLine};
 
 use load::Shown;
-use print::{file, number, pair, short};
+use print::{Out, file, number, pair, short};
 use request::Request;
 use request::lists::{bytes, bytes_room};
 use store::Kept;
@@ -22,7 +22,8 @@ pub fn store_first(line: &[i32; 2112], head: Head, room: &mut [u8], places: usiz
 pub fn store(
     line: &[i32; 2112],
     head: Head,
-    out: Out, buffer: &mut [u8; 4096],
+    out: Out,
+    buffer: &mut [u8; 4096],
     at: usize,
     places: usize,
 ) -> usize

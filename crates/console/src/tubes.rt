@@ -5,7 +5,7 @@ ghost use Rattle.request.specs.InLine.{InLine};
 ghost use Rattle.tube.specs.Valid.{Valid as Joined};
 ghost use Rattle.tube.specs.Words.{from_words};
 
-use print::{short, short_signed};
+use print::{Out, short, short_signed};
 use request::Request;
 use request::kinds::{JUNCTION, MOVE};
 use request::pairs::{Two, two_samples};
@@ -53,7 +53,8 @@ fn sample(junction: &mut [u32; 16], out: Out, buffer: &mut [u8; 4096], at: usize
 // The answer to a line that asks for a call on the junction.
 pub fn call_junction(
     junction: &mut [u32; 16],
-    out: Out, buffer: &mut [u8; 4096],
+    out: Out,
+    buffer: &mut [u8; 4096],
     at: usize,
     s: &[u8],
     l: Request,

@@ -10,7 +10,7 @@ use crate::instruments::{turn_mix, turn_string};
 use crate::start::start;
 use crate::tubes::call_junction;
 use crate::voices::{Turn, turned};
-use print::bytes;
+use print::{Out, bytes};
 use request::kinds::{EMPTY, JUNCTION, MIX, TUBE};
 use request::{Request, parse};
 use voice::Head;
@@ -31,7 +31,8 @@ fn call_kept(
     junction: &mut [u32; 16],
     heads: &mut [[u32; 27]; 6],
     lines: &mut [[i32; 2112]; 6],
-    out: Out, buffer: &mut [u8; 4096],
+    out: Out,
+    buffer: &mut [u8; 4096],
     at: usize,
     s: &[u8],
     l: Request,
@@ -70,7 +71,8 @@ pub fn answered(
     junction: &mut [u32; 16],
     heads: &mut [[u32; 27]; 6],
     lines: &mut [[i32; 2112]; 6],
-    out: Out, buffer: &mut [u8; 4096],
+    out: Out,
+    buffer: &mut [u8; 4096],
     at: usize,
     s: &[u8],
     index: u64,

@@ -11,7 +11,7 @@ use crate::shown::{past, state};
 use crate::start::returned;
 use crate::stored::{load, panel, store};
 use answers::asked;
-use print::{samples, short};
+use print::{Out, samples, short};
 use request::Request;
 use request::kinds::{BLOCK, LINE, LOAD, MERGE, PANEL, RUN, STATE, STORE};
 use voice::Head;
@@ -27,7 +27,8 @@ pub struct Turn {
 fn called(
     line: &mut [i32; 2112],
     head: Head,
-    out: Out, buffer: &mut [u8; 4096],
+    out: Out,
+    buffer: &mut [u8; 4096],
     at: usize,
     l: Request,
 ) -> Turn
@@ -46,7 +47,8 @@ fn called(
 fn rendered(
     line: &mut [i32; 2112],
     head: Head,
-    out: Out, buffer: &mut [u8; 4096],
+    out: Out,
+    buffer: &mut [u8; 4096],
     at: usize,
     s: &[u8],
     l: Request,
@@ -65,7 +67,14 @@ fn rendered(
 }
 
 // A stored voice in place of the one that was kept, by a refusal too.
-fn reload(line: &mut [i32; 2112], out: Out, buffer: &mut [u8; 4096], at: usize, s: &[u8], l: Request) -> Turn
+fn reload(
+    line: &mut [i32; 2112],
+    out: Out,
+    buffer: &mut [u8; 4096],
+    at: usize,
+    s: &[u8],
+    l: Request,
+) -> Turn
     requires { InLine (length s.now) l }
     ensures { Valid result.head line.new }
 {
@@ -81,7 +90,8 @@ fn reload(line: &mut [i32; 2112], out: Out, buffer: &mut [u8; 4096], at: usize, 
 fn told(
     line: &[i32; 2112],
     head: Head,
-    out: Out, buffer: &mut [u8; 4096],
+    out: Out,
+    buffer: &mut [u8; 4096],
     at: usize,
     s: &[u8],
     l: Request,
@@ -113,7 +123,8 @@ fn told(
 pub fn turned(
     line: &mut [i32; 2112],
     head: Head,
-    out: Out, buffer: &mut [u8; 4096],
+    out: Out,
+    buffer: &mut [u8; 4096],
     at: usize,
     s: &[u8],
     l: Request,

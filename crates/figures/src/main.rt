@@ -2,92 +2,103 @@
 // definitions give document 01's starred ones, and those that L5 adds, are specs/Starred.antt and Added.antt.
 #![tactic(auto)]
 
-use libc::STDOUT_FILENO;
+use std::io::{Print, Stdout};
 
-fn number(n: u32) {
-    io::write_all(STDOUT_FILENO, b" ");
-    io::print_decimal(STDOUT_FILENO, n as u64);
+fn text(out: Stdout, s: &[u8]) {
+    let _ = Print::write_all(&out, s);
 }
 
-fn signed(n: i32) {
+fn decimal(out: Stdout, n: u64) {
+    let mut digits = [0u8; 20];
+    let k = io::decimal(n, &mut digits);
+    text(out, &digits[..k]);
+}
+
+fn number(out: Stdout, n: u32) {
+    text(out, b" ");
+    decimal(out, n as u64);
+}
+
+fn signed(out: Stdout, n: i32) {
     if n < 0 {
-        io::write_all(STDOUT_FILENO, b" -");
+        text(out, b" -");
     } else {
-        io::write_all(STDOUT_FILENO, b" ");
+        text(out, b" ");
     }
-    io::print_decimal(STDOUT_FILENO, integer::magnitude(n));
+    decimal(out, integer::magnitude(n));
 }
 
-fn end() {
-    io::write_all(STDOUT_FILENO, b"\n");
+fn end(out: Stdout) {
+    text(out, b"\n");
 }
 
-fn coefficients(order: u32, d: u32) {
-    io::write_all(STDOUT_FILENO, b"coefficients");
+fn coefficients(out: Stdout, order: u32, d: u32) {
+    text(out, b"coefficients");
     let r = thiran::coefficients(order, d);
-    number(order);
-    number(d);
-    io::write_all(STDOUT_FILENO, b":");
-    number(r.refusal);
-    signed(r.a1);
-    signed(r.a2);
-    signed(r.a3);
-    end();
+    number(out, order);
+    number(out, d);
+    text(out, b":");
+    number(out, r.refusal);
+    signed(out, r.a1);
+    signed(out, r.a2);
+    signed(out, r.a3);
+    end(out);
 }
 
-fn length(order: u32, d: u32, threshold: u32) {
-    io::write_all(STDOUT_FILENO, b"length");
+fn length(out: Stdout, order: u32, d: u32, threshold: u32) {
+    text(out, b"length");
     let r = allpass::effective_length(order, d, threshold);
-    number(order);
-    number(d);
-    number(threshold);
-    io::write_all(STDOUT_FILENO, b":");
-    number(r.refusal);
-    number(r.length);
-    end();
+    number(out, order);
+    number(out, d);
+    number(out, threshold);
+    text(out, b":");
+    number(out, r.refusal);
+    number(out, r.length);
+    end(out);
 }
 
-fn note(order: u32, rate: u32, m: u32) {
-    io::write_all(STDOUT_FILENO, b"note");
+fn note(out: Stdout, order: u32, rate: u32, m: u32) {
+    text(out, b"note");
     let r = pitch::note(order, rate, m);
-    number(order);
-    number(rate);
-    number(m);
-    io::write_all(STDOUT_FILENO, b":");
-    number(r.refusal);
-    number(r.length);
-    number(r.delay);
-    end();
+    number(out, order);
+    number(out, rate);
+    number(out, m);
+    text(out, b":");
+    number(out, r.refusal);
+    number(out, r.length);
+    number(out, r.delay);
+    end(out);
 }
 
-fn draw(state: u32) -> u32 {
-    io::write_all(STDOUT_FILENO, b"draw");
+fn draw(out: Stdout, state: u32) -> u32 {
+    text(out, b"draw");
     let r = noise::draw(state);
-    number(state);
-    io::write_all(STDOUT_FILENO, b":");
-    signed(r.value);
-    end();
+    number(out, state);
+    text(out, b":");
+    signed(out, r.value);
+    end(out);
     r.state
 }
 
-fn main() {
-    coefficients(1, 2_049);
-    coefficients(1, 4_096);
-    coefficients(1, 6_144);
-    coefficients(1, 2_979);
-    coefficients(2, 6_145);
-    coefficients(2, 10_240);
-    coefficients(2, 8_192);
-    coefficients(3, 10_241);
-    coefficients(3, 12_288);
-    coefficients(3, 14_336);
-    coefficients(1, 2_048);
-    coefficients(2, 6_144);
-    let first = draw(0);
-    let second = draw(first);
-    draw(second);
-    note(1, 44_100, 69);
-    note(2, 44_100, 69);
-    length(2, 9_159, 1_000);
-    length(1, 6_144, 1_000_000);
+fn main(rt: HostRuntime) {
+    let out = rt.stdout();
+    coefficients(out, 1, 2_049);
+    coefficients(out, 1, 4_096);
+    coefficients(out, 1, 6_144);
+    coefficients(out, 1, 2_979);
+    coefficients(out, 2, 6_145);
+    coefficients(out, 2, 10_240);
+    coefficients(out, 2, 8_192);
+    coefficients(out, 3, 10_241);
+    coefficients(out, 3, 12_288);
+    coefficients(out, 3, 14_336);
+    coefficients(out, 1, 2_048);
+    coefficients(out, 2, 6_144);
+    let first = draw(out, 0);
+    let second = draw(out, first);
+    draw(out, second);
+    note(out, 1, 44_100, 69);
+    note(out, 2, 44_100, 69);
+    length(out, 2, 9_159, 1_000);
+    length(out, 1, 6_144, 1_000_000);
 }

@@ -6,7 +6,7 @@
 ghost use Rattle.std.specs.Prelude.{◌≤◌};
 
 use input::full;
-use print::{bytes, flush, line, number};
+use print::{Out, bytes, complain, flush, line, number};
 use score::Played;
 
 // The first samples of an output, so many as were written, each on a line.
@@ -34,31 +34,34 @@ fn end(out: Out, buffer: &mut [u8; 4096], at: usize, r: Played) -> usize {
 }
 
 // Prints what a run returned and wrote.
-fn told(output: &[i32; 16384], r: Played) {
+fn told(out: Out, output: &[i32; 16384], r: Played) {
     let mut buffer = [0u8; 4096];
     let a = samples(out, &mut buffer, output, r.written);
     let b = end(out, &mut buffer, a, r);
-    if 4_096 < flush(out, &buffer, b) {
-        os::fail(b"player: standard output");
-    }
+    flush(out, &buffer, b);
 }
 
 // Runs the first bytes, and prints what the run returned and wrote.
-fn play(given: &[u8; 32768], count: usize)
+fn play(out: Out, given: &[u8; 32768], count: usize)
     requires { count ≤ 32768 }
 {
     let s: &[u8] = given;
     let mut output = [0i32; 16384];
     let r = score::run(&s[..count], &mut output);
-    told(&output, r);
+    told(out, &output, r);
 }
 
-fn main() {
+fn main(rt: HostRuntime) {
+    let out = Out {
+        to: rt.stdout(),
+        told: rt.stderr(),
+        program: b"player",
+    };
     let mut bytes = [0u8; 32768];
-    let r = full(&mut bytes);
+    let r = full(rt.stdin(), &mut bytes);
     if r.failed {
-        os::fail(b"player: standard input");
+        complain(out, b"standard input", r.code);
         return;
     }
-    play(&bytes, r.held);
+    play(out, &bytes, r.held);
 }
