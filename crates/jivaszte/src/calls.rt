@@ -17,8 +17,7 @@ ghost use Rattle.kept.specs.Lent.{answer_of, opened_of};
 ghost use Rattle.kept.specs.Awaited.{awaited};
 
 // Opens a voice, whatever the memory held: a refused opening leaves the refusal voice.
-#[unsafe(no_mangle)]
-pub extern "C" fn jivaszte_packed_open(
+pub fn jivaszte_packed_open(
     head: &mut [u32; 27],
     line: &mut [i32; 2112],
     order: u32,
@@ -34,8 +33,7 @@ pub extern "C" fn jivaszte_packed_open(
 }
 
 // Sets the loss.
-#[unsafe(no_mangle)]
-pub extern "C" fn jivaszte_packed_loss(head: &mut [u32; 27], g: u32) -> u32
+pub fn jivaszte_packed_loss(head: &mut [u32; 27], g: u32) -> u32
     requires { Fit (head_of head.old) }
     ensures { Called (head_of head.old) (Loss g) (answer_of result head.new) }
 {
@@ -43,13 +41,7 @@ pub extern "C" fn jivaszte_packed_loss(head: &mut [u32; 27], g: u32) -> u32
 }
 
 // Starts a pluck in place of the rest of the old one.
-#[unsafe(no_mangle)]
-pub extern "C" fn jivaszte_packed_pluck(
-    head: &mut [u32; 27],
-    amplitude: u32,
-    count: u32,
-    seed: u32,
-) -> u32
+pub fn jivaszte_packed_pluck(head: &mut [u32; 27], amplitude: u32, count: u32, seed: u32) -> u32
     requires { Fit (head_of head.old) }
     ensures { Called (head_of head.old) (Plucking amplitude count seed) (answer_of result head.new) }
 {
@@ -57,13 +49,7 @@ pub extern "C" fn jivaszte_packed_pluck(
 }
 
 // Announces a change, which takes effect after as many samples as the advance.
-#[unsafe(no_mangle)]
-pub extern "C" fn jivaszte_packed_announce(
-    head: &mut [u32; 27],
-    order: u32,
-    length: u32,
-    delay: u32,
-) -> u32
+pub fn jivaszte_packed_announce(head: &mut [u32; 27], order: u32, length: u32, delay: u32) -> u32
     requires { Fit (head_of head.old) }
     ensures { Called (head_of head.old) (Announce (tuning order length delay)) (answer_of result head.new) }
 {
@@ -71,8 +57,7 @@ pub extern "C" fn jivaszte_packed_announce(
 }
 
 // Changes at once; count is how many samples of the line the eliminator was run over.
-#[unsafe(no_mangle)]
-pub extern "C" fn jivaszte_packed_instant(
+pub fn jivaszte_packed_instant(
     head: &mut [u32; 27],
     line: &[i32; 2112],
     order: u32,
@@ -91,13 +76,7 @@ pub extern "C" fn jivaszte_packed_instant(
 }
 
 // Asks for a change, which takes effect when it is committed.
-#[unsafe(no_mangle)]
-pub extern "C" fn jivaszte_packed_ask(
-    head: &mut [u32; 27],
-    order: u32,
-    length: u32,
-    delay: u32,
-) -> u32
+pub fn jivaszte_packed_ask(head: &mut [u32; 27], order: u32, length: u32, delay: u32) -> u32
     requires { Fit (head_of head.old) }
     ensures { Called (head_of head.old) (Ask (tuning order length delay)) (answer_of result head.new) }
 {
@@ -105,8 +84,7 @@ pub extern "C" fn jivaszte_packed_ask(
 }
 
 // Puts the change that was asked for in force, before the next sample.
-#[unsafe(no_mangle)]
-pub extern "C" fn jivaszte_packed_commit(head: &mut [u32; 27]) -> u32
+pub fn jivaszte_packed_commit(head: &mut [u32; 27]) -> u32
     requires { Fit (head_of head.old) }
     ensures { Called (head_of head.old) Commit (answer_of result head.new) }
 {
@@ -114,8 +92,7 @@ pub extern "C" fn jivaszte_packed_commit(head: &mut [u32; 27]) -> u32
 }
 
 // Drops the change that was asked for.
-#[unsafe(no_mangle)]
-pub extern "C" fn jivaszte_packed_withdraw(head: &mut [u32; 27]) -> u32
+pub fn jivaszte_packed_withdraw(head: &mut [u32; 27]) -> u32
     requires { Fit (head_of head.old) }
     ensures { Called (head_of head.old) Withdraw (answer_of result head.new) }
 {
@@ -123,8 +100,7 @@ pub extern "C" fn jivaszte_packed_withdraw(head: &mut [u32; 27]) -> u32
 }
 
 // A block: an output for each input.
-#[unsafe(no_mangle)]
-pub extern "C" fn jivaszte_packed_block(
+pub fn jivaszte_packed_block(
     head: &mut [u32; 27],
     line: &mut [i32; 2112],
     input: &[i32],
@@ -142,12 +118,7 @@ pub extern "C" fn jivaszte_packed_block(
 }
 
 // A block of zeros, as long as the output: no input is read.
-#[unsafe(no_mangle)]
-pub extern "C" fn jivaszte_packed_play(
-    head: &mut [u32; 27],
-    line: &mut [i32; 2112],
-    output: &mut [i32],
-) -> u32
+pub fn jivaszte_packed_play(head: &mut [u32; 27], line: &mut [i32; 2112], output: &mut [i32]) -> u32
     requires { Valid (head_of head.old) line.old }
     ensures on { On (head_of head.old) line.old
         (Block (replicate (length output.old) (pos 0)) (length output.old))
@@ -162,8 +133,7 @@ pub extern "C" fn jivaszte_packed_play(
 
 // How many samples an announced change still takes, or an asked one until its commit is accepted; 0 where
 // nothing waits.
-#[unsafe(no_mangle)]
-pub extern "C" fn jivaszte_packed_waits(head: &[u32; 27]) -> u32
+pub fn jivaszte_packed_waits(head: &[u32; 27]) -> u32
     requires { Fit (head_of head.now) }
     ensures { result ≡ awaited (voice_of (head_of head.now)) }
 {
@@ -171,8 +141,7 @@ pub extern "C" fn jivaszte_packed_waits(head: &[u32; 27]) -> u32
 }
 
 // 1 where the words and the line are a voice, else 0: for memory that came from elsewhere.
-#[unsafe(no_mangle)]
-pub extern "C" fn jivaszte_packed_check(head: &[u32; 27], line: &[i32; 2112]) -> u32
+pub fn jivaszte_packed_check(head: &[u32; 27], line: &[i32; 2112]) -> u32
     ensures upper_bound { result ≤ 1 }
     ensures variant { (result ≡ 1) ↔ Valid (head_of head.now) line.now }
 {

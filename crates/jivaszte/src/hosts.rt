@@ -11,8 +11,7 @@ use events::Event;
 use floats::frame::Frame;
 
 // L and d of a delay in samples.
-#[unsafe(no_mangle)]
-pub extern "C" fn jivaszte_split(order: u32, samples: f32, span: &mut u32, delay: &mut u32) -> u32
+pub fn jivaszte_split(order: u32, samples: f32, span: &mut u32, delay: &mut u32) -> u32
     ensures { record { refusal = result; length = span.new; delay = delay.new }
         ≡ split order samples }
 {
@@ -23,12 +22,7 @@ pub extern "C" fn jivaszte_split(order: u32, samples: f32, span: &mut u32, delay
 }
 
 // A host's delay: an announced change on a string, its order kept.
-#[unsafe(no_mangle)]
-pub extern "C" fn jivaszte_strings_event_delay(
-    heads: &mut [[u32; 27]; 6],
-    string: u32,
-    samples: f32,
-) -> u32
+pub fn jivaszte_strings_event_delay(heads: &mut [[u32; 27]; 6], string: u32, samples: f32) -> u32
     requires { Heads heads.old }
     ensures { Handled heads.old string (Delay samples) result heads.new }
 {
@@ -36,12 +30,7 @@ pub extern "C" fn jivaszte_strings_event_delay(
 }
 
 // A host's loss on a string.
-#[unsafe(no_mangle)]
-pub extern "C" fn jivaszte_strings_event_loss(
-    heads: &mut [[u32; 27]; 6],
-    string: u32,
-    loss: f32,
-) -> u32
+pub fn jivaszte_strings_event_loss(heads: &mut [[u32; 27]; 6], string: u32, loss: f32) -> u32
     requires { Heads heads.old }
     ensures { Handled heads.old string (Loss loss) result heads.new }
 {
@@ -49,8 +38,7 @@ pub extern "C" fn jivaszte_strings_event_loss(
 }
 
 // One sample for all six strings, and one frame.
-#[unsafe(no_mangle)]
-pub extern "C" fn jivaszte_strings_frame(
+pub fn jivaszte_strings_frame(
     heads: &mut [[u32; 27]; 6],
     lines: &mut [[i32; 2112]; 6],
     sample: f32,

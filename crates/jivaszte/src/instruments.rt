@@ -11,16 +11,14 @@ ghost use Rattle.instrument.specs.Strings.{store as Storing, load as Loading, nu
 ghost use Rattle.strings.specs.Rows.{strings_of, Heads, Voices, Called, Played, Resets};
 
 // Six strings, whatever the memory held: each is Open's refusal voice.
-#[unsafe(no_mangle)]
-pub extern "C" fn jivaszte_strings_reset(heads: &mut [[u32; 27]; 6], lines: &mut [[i32; 2112]; 6])
+pub fn jivaszte_strings_reset(heads: &mut [[u32; 27]; 6], lines: &mut [[i32; 2112]; 6])
     ensures { Resets heads.new lines.new }
 {
     strings::reset(heads, lines);
 }
 
 // Opens a voice on a string.
-#[unsafe(no_mangle)]
-pub extern "C" fn jivaszte_strings_open(
+pub fn jivaszte_strings_open(
     heads: &mut [[u32; 27]; 6],
     lines: &mut [[i32; 2112]; 6],
     string: u32,
@@ -39,8 +37,7 @@ pub extern "C" fn jivaszte_strings_open(
 }
 
 // Sets the loss of a string.
-#[unsafe(no_mangle)]
-pub extern "C" fn jivaszte_strings_loss(heads: &mut [[u32; 27]; 6], string: u32, g: u32) -> u32
+pub fn jivaszte_strings_loss(heads: &mut [[u32; 27]; 6], string: u32, g: u32) -> u32
     requires { Heads heads.old }
     ensures { Called heads.old string (calls (Loss g)) result heads.new }
 {
@@ -48,8 +45,7 @@ pub extern "C" fn jivaszte_strings_loss(heads: &mut [[u32; 27]; 6], string: u32,
 }
 
 // Starts a pluck on a string.
-#[unsafe(no_mangle)]
-pub extern "C" fn jivaszte_strings_pluck(
+pub fn jivaszte_strings_pluck(
     heads: &mut [[u32; 27]; 6],
     string: u32,
     amplitude: u32,
@@ -64,8 +60,7 @@ pub extern "C" fn jivaszte_strings_pluck(
 }
 
 // Announces a change on a string.
-#[unsafe(no_mangle)]
-pub extern "C" fn jivaszte_strings_announce(
+pub fn jivaszte_strings_announce(
     heads: &mut [[u32; 27]; 6],
     string: u32,
     order: u32,
@@ -80,8 +75,7 @@ pub extern "C" fn jivaszte_strings_announce(
 }
 
 // Changes a string at once; count is how many samples of its line the eliminator was run over.
-#[unsafe(no_mangle)]
-pub extern "C" fn jivaszte_strings_instant(
+pub fn jivaszte_strings_instant(
     heads: &mut [[u32; 27]; 6],
     lines: &[[i32; 2112]; 6],
     string: u32,
@@ -102,8 +96,7 @@ pub extern "C" fn jivaszte_strings_instant(
 }
 
 // Asks for a change on a string, which takes effect when it is committed.
-#[unsafe(no_mangle)]
-pub extern "C" fn jivaszte_strings_ask(
+pub fn jivaszte_strings_ask(
     heads: &mut [[u32; 27]; 6],
     string: u32,
     order: u32,
@@ -118,8 +111,7 @@ pub extern "C" fn jivaszte_strings_ask(
 }
 
 // Puts the change that was asked for in force, before the next sample.
-#[unsafe(no_mangle)]
-pub extern "C" fn jivaszte_strings_commit(heads: &mut [[u32; 27]; 6], string: u32) -> u32
+pub fn jivaszte_strings_commit(heads: &mut [[u32; 27]; 6], string: u32) -> u32
     requires { Heads heads.old }
     ensures { Called heads.old string (calls Commit) result heads.new }
 {
@@ -127,8 +119,7 @@ pub extern "C" fn jivaszte_strings_commit(heads: &mut [[u32; 27]; 6], string: u3
 }
 
 // Drops the change that was asked for.
-#[unsafe(no_mangle)]
-pub extern "C" fn jivaszte_strings_withdraw(heads: &mut [[u32; 27]; 6], string: u32) -> u32
+pub fn jivaszte_strings_withdraw(heads: &mut [[u32; 27]; 6], string: u32) -> u32
     requires { Heads heads.old }
     ensures { Called heads.old string (calls Withdraw) result heads.new }
 {
@@ -136,8 +127,7 @@ pub extern "C" fn jivaszte_strings_withdraw(heads: &mut [[u32; 27]; 6], string: 
 }
 
 // A block of all six strings: an output for each input.
-#[unsafe(no_mangle)]
-pub extern "C" fn jivaszte_strings_mix(
+pub fn jivaszte_strings_mix(
     heads: &mut [[u32; 27]; 6],
     lines: &mut [[i32; 2112]; 6],
     input: &[i32],
@@ -155,8 +145,7 @@ pub extern "C" fn jivaszte_strings_mix(
 }
 
 // A block of zeros of all six strings, as long as the output: no input is read.
-#[unsafe(no_mangle)]
-pub extern "C" fn jivaszte_strings_play(
+pub fn jivaszte_strings_play(
     heads: &mut [[u32; 27]; 6],
     lines: &mut [[i32; 2112]; 6],
     output: &mut [i32],
@@ -173,8 +162,7 @@ pub extern "C" fn jivaszte_strings_play(
 }
 
 // Stores a string in the bytes: how many they are is in length. 18 where there are fewer.
-#[unsafe(no_mangle)]
-pub extern "C" fn jivaszte_strings_store(
+pub fn jivaszte_strings_store(
     heads: &[[u32; 27]; 6],
     lines: &[[i32; 2112]; 6],
     string: u32,
@@ -194,8 +182,7 @@ pub extern "C" fn jivaszte_strings_store(
 }
 
 // Loads the voice that the bytes hold into a string.
-#[unsafe(no_mangle)]
-pub extern "C" fn jivaszte_strings_load(
+pub fn jivaszte_strings_load(
     heads: &mut [[u32; 27]; 6],
     lines: &mut [[i32; 2112]; 6],
     string: u32,

@@ -9,8 +9,7 @@ ghost use Rattle.tube.specs.Words.{from_words};
 use tube::memory::{pack, unpack};
 
 // Opens a junction, whatever the memory held.
-#[unsafe(no_mangle)]
-pub extern "C" fn jivaszte_junction_open(
+pub fn jivaszte_junction_open(
     junction: &mut [u32; 16],
     left: u32,
     right: u32,
@@ -32,8 +31,7 @@ pub extern "C" fn jivaszte_junction_open(
 }
 
 // Announces a new delay.
-#[unsafe(no_mangle)]
-pub extern "C" fn jivaszte_junction_move(junction: &mut [u32; 16], d: u32) -> u32
+pub fn jivaszte_junction_move(junction: &mut [u32; 16], d: u32) -> u32
     requires { Valid (from_words junction.old) }
     ensures junction_after { record {
       number = result;
@@ -51,8 +49,7 @@ pub extern "C" fn jivaszte_junction_move(junction: &mut [u32; 16], d: u32) -> u3
 }
 
 // One sample from each side.
-#[unsafe(no_mangle)]
-pub extern "C" fn jivaszte_junction_sample(
+pub fn jivaszte_junction_sample(
     junction: &mut [u32; 16],
     a: i32,
     b: i32,
@@ -62,7 +59,7 @@ pub extern "C" fn jivaszte_junction_sample(
     requires { Valid (from_words junction.old) }
     ensures junction_after { record {
       number = result;
-      outputs = record { right = right.exit.now; left = left.new };
+      outputs = record { right = right.new; left = left.new };
       junction = junction_of (from_words junction.new);
     } ≡ answer (junction_of (from_words junction.old)) (Sample (record { a = a; b = b })) }
     ensures valid { Valid (from_words junction.new) }

@@ -1,4 +1,4 @@
-// The routines for programs in other languages, by the C calling convention, as include/jivaszte.h has them.
+// The routines as include/jivaszte.h has them, which the crate jivaszte_c exports to programs in other languages.
 // A contract cites the called routine's definition; a refusal is returned, the rest is left in what is lent.
 #![tactic(auto)]
 
@@ -16,21 +16,14 @@ ghost use Rattle.timeline.specs.Answered.{Answered};
 ghost use Rattle.wav.specs.Written.{written, left};
 ghost use Rattle.wav.specs.Recorded.{recorded, filled};
 
-mod calls;
-mod hosts;
-mod instruments;
-mod junctions;
-mod stored;
+pub mod calls;
+pub mod hosts;
+pub mod instruments;
+pub mod junctions;
+pub mod stored;
 
 // A1, A2 and A3 of an order and a delay.
-#[unsafe(no_mangle)]
-pub extern "C" fn jivaszte_coefficients(
-    order: u32,
-    d: u32,
-    a1: &mut i32,
-    a2: &mut i32,
-    a3: &mut i32,
-) -> u32
+pub fn jivaszte_coefficients(order: u32, d: u32, a1: &mut i32, a2: &mut i32, a3: &mut i32) -> u32
     ensures { record {
       refusal = result;
       a1 = a1.new;
@@ -49,13 +42,7 @@ pub extern "C" fn jivaszte_coefficients(
 }
 
 // The index of the last value of the eliminator's response that exceeds the threshold, plus one.
-#[unsafe(no_mangle)]
-pub extern "C" fn jivaszte_effective_length(
-    order: u32,
-    d: u32,
-    threshold: u32,
-    effective: &mut u32,
-) -> u32
+pub fn jivaszte_effective_length(order: u32, d: u32, threshold: u32, effective: &mut u32) -> u32
     ensures { record { refusal = result; length = effective.new } ≡ effective_length order d threshold }
 {
     let m = allpass::effective_length(order, d, threshold);
@@ -64,8 +51,7 @@ pub extern "C" fn jivaszte_effective_length(
 }
 
 // The least advance with which each sample after a change to an order and a delay is at most `wanted` from the ideal.
-#[unsafe(no_mangle)]
-pub extern "C" fn jivaszte_least_advance(order: u32, d: u32, wanted: u32, advance: &mut u32) -> u32
+pub fn jivaszte_least_advance(order: u32, d: u32, wanted: u32, advance: &mut u32) -> u32
     ensures { record { refusal = result; na = advance.new } ≡ least_advance order d wanted }
 {
     let f = advance::least(order, d, wanted);
@@ -74,14 +60,7 @@ pub extern "C" fn jivaszte_least_advance(order: u32, d: u32, wanted: u32, advanc
 }
 
 // L and d of a note at a rate.
-#[unsafe(no_mangle)]
-pub extern "C" fn jivaszte_note(
-    order: u32,
-    rate: u32,
-    note: u32,
-    span: &mut u32,
-    delay: &mut u32,
-) -> u32
+pub fn jivaszte_note(order: u32, rate: u32, note: u32, span: &mut u32, delay: &mut u32) -> u32
     ensures { record { refusal = result; length = span.new; delay = delay.new }
         ≡ pitch order rate note }
 {
@@ -92,8 +71,7 @@ pub extern "C" fn jivaszte_note(
 }
 
 // One draw on the noise state that is lent.
-#[unsafe(no_mangle)]
-pub extern "C" fn jivaszte_draw(noise: &mut u32) -> i32
+pub fn jivaszte_draw(noise: &mut u32) -> i32
     ensures { record { value = result; state = noise.new } ≡ drawn noise.old }
 {
     let d = noise::draw(*noise);
@@ -102,8 +80,7 @@ pub extern "C" fn jivaszte_draw(noise: &mut u32) -> i32
 }
 
 // Reads the record that the bytes start with, and returns how many bytes it takes: 0 where it is refused.
-#[unsafe(no_mangle)]
-pub extern "C" fn jivaszte_record(score: &[u8], fields: &mut [u32; 9]) -> usize
+pub fn jivaszte_record(score: &[u8], fields: &mut [u32; 9]) -> usize
     ensures fields_after { fields.new ≡ Fields score.now }
     ensures upper_bound { (result ≤ length score.now)
         × (drop result score.now ≡ Rest score.now) }
@@ -112,16 +89,14 @@ pub extern "C" fn jivaszte_record(score: &[u8], fields: &mut [u32; 9]) -> usize
 }
 
 // The number that the bytes from start on make, eight at most.
-#[unsafe(no_mangle)]
-pub extern "C" fn jivaszte_gather(bytes: &[u8], start: usize) -> u64
+pub fn jivaszte_gather(bytes: &[u8], start: usize) -> u64
     ensures { result ≡ gathered bytes.now start }
 {
     octets::gather(bytes, start)
 }
 
 // A list of calls, in words, on a fresh voice.
-#[unsafe(no_mangle)]
-pub extern "C" fn jivaszte_perform(
+pub fn jivaszte_perform(
     order: u32,
     span: u32,
     delay: u32,
@@ -153,13 +128,7 @@ pub extern "C" fn jivaszte_perform(
 }
 
 // The run of a score.
-#[unsafe(no_mangle)]
-pub extern "C" fn jivaszte_run(
-    score: &[u8],
-    output: &mut [i32],
-    place: &mut usize,
-    written: &mut usize,
-) -> u32
+pub fn jivaszte_run(score: &[u8], output: &mut [i32], place: &mut usize, written: &mut usize) -> u32
     ensures { Runs score.now output.old
         (record { refusal = result; place = place.new; written = written.new })
         output.new }
@@ -171,13 +140,7 @@ pub extern "C" fn jivaszte_run(
 }
 
 // Merges two scores into the bytes lent.
-#[unsafe(no_mangle)]
-pub extern "C" fn jivaszte_merge(
-    first: &[u8],
-    second: &[u8],
-    bytes: &mut [u8],
-    length: &mut usize,
-) -> u32
+pub fn jivaszte_merge(first: &[u8], second: &[u8], bytes: &mut [u8], length: &mut usize) -> u32
     ensures { Answered first.now second.now bytes.old result
         length.new bytes.new }
 {
@@ -187,13 +150,7 @@ pub extern "C" fn jivaszte_merge(
 }
 
 // Writes samples at a rate as a WAV file.
-#[unsafe(no_mangle)]
-pub extern "C" fn jivaszte_wav_write(
-    rate: u32,
-    samples: &[i32],
-    file: &mut [u8],
-    count: &mut usize,
-) -> u32
+pub fn jivaszte_wav_write(rate: u32, samples: &[i32], file: &mut [u8], count: &mut usize) -> u32
     ensures count_after { record { refusal = result; count = count.new }
         ≡ written rate samples.now (length file.old) }
     ensures file_after { file.new ≡ left rate samples.now file.old }
@@ -204,13 +161,7 @@ pub extern "C" fn jivaszte_wav_write(
 }
 
 // Reads the samples of a WAV file, and its rate.
-#[unsafe(no_mangle)]
-pub extern "C" fn jivaszte_wav_read(
-    file: &[u8],
-    samples: &mut [i32],
-    rate: &mut u32,
-    count: &mut usize,
-) -> u32
+pub fn jivaszte_wav_read(file: &[u8], samples: &mut [i32], rate: &mut u32, count: &mut usize) -> u32
     ensures count_after { record { refusal = result; rate = rate.new; count = count.new }
         ≡ recorded file.now (length samples.old) }
     ensures samples_after { samples.new ≡ filled file.now samples.old }
@@ -222,8 +173,7 @@ pub extern "C" fn jivaszte_wav_read(
 }
 
 // The version, which header and program have too: 0.1.0 is 100, and 1.2.3 would be 10,203.
-#[unsafe(no_mangle)]
-pub extern "C" fn jivaszte_version() -> u32
+pub fn jivaszte_version() -> u32
     ensures { result ≡ 100 }
 {
     100

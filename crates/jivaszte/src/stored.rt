@@ -6,8 +6,7 @@ ghost use Rattle.store.specs.Stores.{Stores};
 ghost use Rattle.load.specs.Loaded.{Loads, Shows};
 
 // Stores a voice in the bytes.
-#[unsafe(no_mangle)]
-pub extern "C" fn jivaszte_packed_store(
+pub fn jivaszte_packed_store(
     head: &[u32; 27],
     line: &[i32; 2112],
     bytes: &mut [u8],
@@ -21,12 +20,7 @@ pub extern "C" fn jivaszte_packed_store(
 }
 
 // Loads a voice, whatever the memory held; by a refusal Open's refusal voice.
-#[unsafe(no_mangle)]
-pub extern "C" fn jivaszte_packed_load(
-    head: &mut [u32; 27],
-    line: &mut [i32; 2112],
-    bytes: &[u8],
-) -> u32
+pub fn jivaszte_packed_load(head: &mut [u32; 27], line: &mut [i32; 2112], bytes: &[u8]) -> u32
     ensures { Loads bytes.now (record { refusal = result; head = head_of head.new })
         line.new }
 {
@@ -34,13 +28,7 @@ pub extern "C" fn jivaszte_packed_load(
 }
 
 // Length, delay and loss of a stored voice.
-#[unsafe(no_mangle)]
-pub extern "C" fn jivaszte_panel(
-    bytes: &[u8],
-    span: &mut u32,
-    delay: &mut u32,
-    loss: &mut u32,
-) -> u32
+pub fn jivaszte_panel(bytes: &[u8], span: &mut u32, delay: &mut u32, loss: &mut u32) -> u32
     ensures { Shows bytes.now (record {
       refusal = result;
       length = span.new;
