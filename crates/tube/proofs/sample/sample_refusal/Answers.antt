@@ -2,7 +2,7 @@
 use mathlib.Core.Path.{refl, sym, ◌∙◌}
 use mathlib.Core.List.{[]}
 use native.Mathlib.Omega.{arith}
-use borrow.Author.Tests.{leb-true, leb-false, not-true, not-false}
+use borrow.Author.Tests.{leb-true, leb-false}
 use borrow.Author.Rules.{rules}
 use lib.IntN.{nat_abs}
 use Rattle.integer.specs.Rounding.{M}
@@ -14,19 +14,18 @@ use Rattle.tube.proofs.sample.sample_refusal.Goals as goal
 pub returns-then-not-is_sample : goal.returns-then-not-is_sample
 returns-then-not-is_sample c =
     let x = c.args.x in
-    let l = leb-false (nat_abs x.a.n) M (sym c.is_sample.ensures ∙ not-true _ c.if-not-is_sample.true) in
+    let l = leb-false (nat_abs x.a.n) M (sym c.is_sample.ensures ∙ c.if-not-is_sample.true) in
     sym (here (sample_limit (pair_of x)) [] (is-met (sample_limit (pair_of x)) (λ k. omega (arith, k.most))))
 
 pub returns-then-not-is_sample-2 : goal.returns-then-not-is_sample-2
 returns-then-not-is_sample-2 c =
     let x = c.args.x in
-    let l = leb-false (nat_abs x.b.n) M (sym c.is_sample-2.ensures ∙ not-true _ c.if-not-is_sample-2.true) in
+    let l = leb-false (nat_abs x.b.n) M (sym c.is_sample-2.ensures ∙ c.if-not-is_sample-2.true) in
     sym (here (sample_limit (pair_of x)) [] (is-met (sample_limit (pair_of x)) (λ k. omega (arith, k.most))))
 
 pub returns : goal.returns
 returns c =
-    let b = c.before.before in
-    let x = b.args.x in
-    let l = leb-true (nat_abs x.b.n) M (sym c.is_sample-2.ensures ∙ not-false _ c.if-not-is_sample-2.false) in
-    let k = leb-true (nat_abs x.a.n) M (sym b.is_sample.ensures ∙ not-false _ b.if-not-is_sample.false) in
+    let x = c.args.x in
+    let k = leb-true (nat_abs x.a.n) M (sym c.is_sample.ensures ∙ c.if-not-is_sample.false) in
+    let l = leb-true (nat_abs x.b.n) M (sym c.is_sample-2.ensures ∙ c.if-not-is_sample-2.false) in
     past (sample_limit (pair_of x)) [] (kept-is (sample_limit (pair_of x)) (record { least = omega arith; most = omega arith })) refl
