@@ -8,7 +8,7 @@ pub returns-then-string-gt5 : goal.returns-then-string-gt5
 returns-then-string-gt5 c = let s = c.args in above s.string s.e (omega (arith, c.if-string-gt5.true))
 
 pub returns-in-Delay : goal.returns-in-Delay
-returns-in-Delay c = rw c.e-1.given.1 c.handle_delay.ensures
+returns-in-Delay c = rw c.in-Delay.is c.handle_delay.ensures
 
 pub returns-in-Loss : goal.returns-in-Loss
-returns-in-Loss c = rw c.e-in-Loss-1.given.1 c.handle_loss.ensures
+returns-in-Loss c = rw c.in-Loss.is c.handle_loss.ensures

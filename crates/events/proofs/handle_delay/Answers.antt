@@ -36,7 +36,7 @@ number_is c ls =
 pub returns-then-p-ne0 : goal.returns-then-p-ne0
 returns-then-p-ne0 c =
     let i = c.before.before in
-    let s = i.before.before.before in
+    let s = i.before.before in
     refused s.args.string (Delay s.args.x) s.requires.1 (number_is i) c.if-p-ne0.true
 
 call-is : (c : (lts.After-split tie.the-claims reads.Pre reads.Post)) (ls : List (List ℤ))
@@ -55,7 +55,7 @@ returns c =
     let e = c.before.before in
     let i = e.before.before in
     let p = i.split-p.result in
-    let s = i.before.before.before in
+    let s = i.before.before in
     done s.args.string (Delay s.args.x) s.requires.1
     (announce (tuning i.order_of-order.result p.length p.delay))
     (λ ls. number_is i ls ∙ e.if-p-ne0.false)
