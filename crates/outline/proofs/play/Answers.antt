@@ -82,26 +82,26 @@ returns-then-r-ne0 c =
 
 pub returns-then-a-ne0 : goal.returns-then-a-ne0
 returns-then-a-ne0 c =
-    let f = c.before.before in
+    let f = c.before.before.before in
     let r = place f in
     stopped (N r) (Na r) (bytes r) (start r) (now r) (left r) (index r) (playing r) (some r) (whole f)
     (follows f).number c.if-a-ne0.true
 
 pub overflow_add-index : goal.overflow_add-index
 overflow_add-index c =
-    let r = place c.before.before in
+    let r = place c.before.before.before.before in
     omega (arith, some r, (playing r).few)
 
 pub loop-t-smaller : goal.loop-t-smaller
 loop-t-smaller c =
-    let f = c.before.before in
+    let f = c.before.before.before.before in
     let r = place f in
     subst (λ (l : List ℕ). length l < length (left r)) (sym r.read_record-rest.ensures.result_value)
     (shorter (left r) (some r) (whole f))
 
 pub loop-t-preserved : goal.loop-t-preserved
 loop-t-preserved c =
-    let f = c.before.before in
+    let f = c.before.before.before.before in
     let r = place f in
     let h = follows f in
     let z = c.if-a-ne0.false in
