@@ -5,4 +5,4 @@ use Rattle.render.proofs.Joined.{zeros-quiet}
 use Rattle.render.proofs.begin.Goals as goal
 
 pub quiet-requires : goal.quiet-requires
-quiet-requires c = let s = c.before.before in (s.requires, zeros-quiet s.args.buffer.now)
+quiet-requires c = (c.requires, zeros-quiet c.args.buffer.now)

@@ -14,18 +14,16 @@ use Rattle.render.proofs.rest.Goals as goal
 
 pub through-requires : goal.through-requires
 through-requires c =
-    let s = c.before.before in
-    let b = s.args.buffer.now in
-    let i = s.args.from in
-    (s.requires.0, zeros-quiet (take (length b - i) (drop i b)))
+    let b = c.args.buffer.now in
+    let i = c.args.from in
+    (c.requires.0, zeros-quiet (take (length b - i) (drop i b)))
 
 pub returns : goal.returns
 returns c b h l w =
     let t = c.through in
-    let s = c.before.before.before.before in
-    let a = s.args in
+    let a = c.args in
     let i = a.from in
     let e = rw (part_to_end a.buffer.now i) at t.ensures in
-    subst (λ (x : List ℤ). Unfed b h l x t.result t.new.0)
-    (sym (back i a.buffer.now t.new.1.1.1.0 s.requires.1))
-    (unfed_rest b h l a.buffer.now a.head a.line.now i w e.0 e.1.0 e.1.1)
+    subst (λ (x : List ℤ). Unfed b h l x t.result t.new.line)
+    (sym (back i a.buffer.now t.new.buffer c.requires.1))
+    (unfed_rest b h l a.buffer.now a.head a.line.now i w e.line_after e.buffer_after e.valid)

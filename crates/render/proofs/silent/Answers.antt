@@ -6,9 +6,7 @@ use Rattle.render.proofs.Joined.{zeros-quiet}
 use Rattle.render.proofs.silent.Goals as goal
 
 pub through-requires : goal.through-requires
-through-requires c = let s = c.before.before in (s.requires, zeros-quiet s.args.buffer.now)
+through-requires c = (c.requires, zeros-quiet c.args.buffer.now)
 
 pub returns : goal.returns
-returns c =
-    let t = c.before in
-    rw (cleared-zeros t.args.buffer.now) at t.through.ensures
+returns c = rw (cleared-zeros c.args.buffer.now) at c.through.ensures

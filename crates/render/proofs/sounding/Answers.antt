@@ -18,8 +18,8 @@ use Rattle.render.proofs.sounding.Tie as tie
 pub loop-i-init : goal.loop-i-init
 loop-i-init c = started refl c.requires.1 c.requires.0
 
--- the sample that comes in a.before.before.before pass of the loop
-module _ (c : (lts.After-input tie.the-claims reads.Pre reads.Post goal.the-invariant-loop-i goal.the-decreases-loop-i)) where
+-- the sample that comes in, in a pass of the loop
+module _ (c : lts.After-input tie.the-claims reads.Pre reads.Post goal.the-invariant-loop-i goal.the-decreases-loop-i tie.handed_clauses) where
   is-next : c.input-x.result.n
       ≡ get_or (fed_of c.args.fed c.loop-i.i c.loop-i.buffer) c.loop-i.i (pos 0)
   is-next = c.input-x.ensures ∙ input-fed c.args.fed c.loop-i.buffer c.loop-i.i
@@ -41,47 +41,38 @@ write-requires c = (
 )
 
 -- a pass of the loop, once its output is stored
-module _ (c : (lts.After-write tie.the-claims reads.Pre reads.Post goal.the-invariant-loop-i goal.the-decreases-loop-i)) where
-  abbrev pass : (lts.At-loop tie.the-claims reads.Pre reads.Post goal.the-invariant-loop-i goal.the-decreases-loop-i)
-  pass = c.before.before.before.before.before.before.before
-
-  abbrev start : goal.Start
-  start = pass.before
-
-  further : Went start.args.fed start.args.buffer.now start.args.head start.args.line.now
-      c.write.new.0 c.step-r.result.head c.step-r.last.0 (pass.loop-i.i + 1)
+module _ (c : lts.After-write tie.the-claims reads.Pre reads.Post goal.the-invariant-loop-i goal.the-decreases-loop-i tie.handed_clauses) where
+  further : Went c.args.fed c.args.buffer.now c.args.head c.args.line.now
+      c.write.new.s c.step-r.result.head c.step-r.new.line (c.loop-i.i + 1)
   further =
-      let l = pass.loop-i in
-      let n = c.before.before.before.before in
-      let s = start.args in
-      more l.inv (left n) (is-next n) c.step-r.ensures
+      let l = c.loop-i in
+      let n = c.before.before.before.before.before in
+      let s = c.args in
+      more l.invariant (left n) (is-next n) c.step-r.ensures
       (ap (fed_of s.fed (l.i + 1)) c.write.ensures
-      ∙ set-fed s.fed l.i l.buffer c.step-r.result.y.n n.loop-i-test.true)
+      ∙ set-fed s.fed l.i l.buffer c.step-r.result.y.n c.loop-i-test.true)
       refl
 
 pub overflow_add-i : goal.overflow_add-i
 overflow_add-i c =
-    let w = c.before.before in
-    let l = (pass w).loop in
-    let s = start w in
-    let n = as_long s.args.fed l.i l.buffer s.args.buffer.now l.inv.0.long in
-    omega (arith, n, w.loop-i-test.true, s.good)
+    let l = c.loop-i in
+    let s = c.args in
+    let n = as_long s.fed l.i l.buffer s.buffer.now l.invariant.0.long in
+    omega (arith, n, c.loop-i-test.true, c.well_formed)
 
 pub shape_of-buffer-then-head-eq0 : goal.shape_of-buffer-then-head-eq0
 shape_of-buffer-then-head-eq0 c =
-    let w = c.before.before.before.before in
-    let s = (start w).args in
-    as_long s.fed ((pass w).loop.i + 1) w.write.new.0 s.buffer.now (further w).0.long
+    let s = c.args in
+    as_long s.fed (c.loop-i.i + 1) c.write.new.s s.buffer.now (further c.before.before.before.before).0.long
 
 pub returns-then-head-eq0 : goal.returns-then-head-eq0
-returns-then-head-eq0 c = let m = further c.before.before.before.before in (m, λ h. omega arith)
+returns-then-head-eq0 c = record { went = further c.before.before.before.before; done_nonzero = λ h. omega arith }
 
 pub loop-i-smaller : goal.loop-i-smaller
 loop-i-smaller c =
-    let w = c.before.before.before.before in
-    let l = (pass w).loop in
-    let s = (start w).args in
-    omega (arith, as_long s.fed l.i l.buffer s.buffer.now l.inv.0.long, w.loop-i-test.true)
+    let l = c.loop-i in
+    let s = c.args in
+    omega (arith, as_long s.fed l.i l.buffer s.buffer.now l.invariant.0.long, c.loop-i-test.true)
 
 pub loop-i-preserved : goal.loop-i-preserved
 loop-i-preserved c = further c.before.before.before.before
@@ -97,4 +88,4 @@ returns c =
     let l = c.loop-i in
     let s = c.args in
     let n = as_long s.fed l.i l.buffer s.buffer.now l.invariant.0.long in
-    (l.invariant, λ h. omega (arith, n, c.loop-i-test.false))
+    record { went = l.invariant; done_nonzero = λ h. omega (arith, n, c.loop-i-test.false) }

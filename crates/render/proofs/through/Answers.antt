@@ -28,39 +28,38 @@ loop-i-init c = (
 )
 
 -- the buffer is as long as it was
-same : (p : (lts.At-loop tie.the-claims reads.Pre reads.Post goal.the-invariant-loop-i goal.the-decreases-loop-i)) → length p.loop.buffer ≡ length p.args.buffer.now
-same p =
-    let l = p.loop in
-    let s = p.args in
+same : (c : lts.At-loop tie.the-claims reads.Pre reads.Post goal.the-invariant-loop-i goal.the-decreases-loop-i tie.handed_clauses) → length c.loop-i.buffer ≡ length c.args.buffer.now
+same c =
+    let l = c.loop-i in
+    let s = c.args in
     as_long s.fed l.i l.buffer s.buffer.now l.invariant.0.long
 
 pub offset_bounds-buffer-i : goal.offset_bounds-buffer-i
 offset_bounds-buffer-i c =
     let p = c.before.before in
-    omega (arith, same p, c.loop-i-test.true, p.well-formed)
+    omega (arith, same p, c.loop-i-test.true, c.well_formed)
 
 pub stretch-p-requires : goal.stretch-p-requires
 stretch-p-requires c =
-    let p = c.before.before.before in
-    let l = p.loop-i in
-    let q = rw (fed-drop p.args.fed l.i l.buffer) at l.invariant.0.quiet in
+    let l = c.loop-i in
+    let q = rw (fed-drop c.args.fed l.i l.buffer) at l.invariant.0.quiet in
     (l.invariant.1, rw (part_to_end l.buffer l.i) q)
 
--- a c.before.before.before.before of the loop, once a stretch is rendered
-module _ (c : (lts.After-stretch tie.the-claims reads.Pre reads.Post goal.the-invariant-loop-i goal.the-decreases-loop-i)) where
+-- a pass of the loop, once a stretch is rendered
+module _ (c : lts.After-stretch tie.the-claims reads.Pre reads.Post goal.the-invariant-loop-i goal.the-decreases-loop-i tie.handed_clauses) where
   abbrev begins : State
   begins = state_of c.args.head c.args.line.now
 
   part : Went c.args.fed (drop c.loop-i.i c.loop-i.buffer) c.loop-i.head
-      c.loop-i.line c.stretch-p.new.1.1.1.0 c.stretch-p.result.head c.stretch-p.new.0
+      c.loop-i.line c.stretch-p.new.buffer c.stretch-p.result.head c.stretch-p.new.line
       c.stretch-p.result.done
-  part = rw (part_to_end c.loop-i.buffer c.loop-i.i) at c.stretch-p.ensures.0
+  part = rw (part_to_end c.loop-i.buffer c.loop-i.i) at c.stretch-p.ensures.went
 
   -- of the buffer with what is still to come in
   part-fed : Rendered (drop c.loop-i.i (fed_of c.args.fed c.loop-i.i c.loop-i.buffer))
       (state_of c.loop-i.head c.loop-i.line)
-      (fed_of c.args.fed c.stretch-p.result.done c.stretch-p.new.1.1.1.0)
-      (state_of c.stretch-p.result.head c.stretch-p.new.0)
+      (fed_of c.args.fed c.stretch-p.result.done c.stretch-p.new.buffer)
+      (state_of c.stretch-p.result.head c.stretch-p.new.line)
       c.stretch-p.result.done
   part-fed = rw (fed-drop c.args.fed c.loop-i.i c.loop-i.buffer) part.0
 
@@ -73,40 +72,40 @@ module _ (c : (lts.After-stretch tie.the-claims reads.Pre reads.Post goal.the-in
   goes_on : 0 < c.stretch-p.result.done
   goes_on =
       let l = c.loop-i in
-      let some = rw (part_to_end l.buffer l.i) at c.stretch-p.ensures.1 in
+      let some = rw (part_to_end l.buffer l.i) at c.stretch-p.ensures.done_nonzero in
       some (omega (arith, length-drop l.i l.buffer, c.loop-i-test.true))
 
   joined : put_mid c.loop-i.i (length c.loop-i.buffer - c.loop-i.i) c.loop-i.buffer
-      c.stretch-p.new.1.1.1.0
-      ≡ take c.loop-i.i c.loop-i.buffer ++ c.stretch-p.new.1.1.1.0
+      c.stretch-p.new.buffer
+      ≡ take c.loop-i.i c.loop-i.buffer ++ c.stretch-p.new.buffer
   joined =
       let l = c.loop-i in
-      back l.i l.buffer c.stretch-p.new.1.1.1.0
+      back l.i l.buffer c.stretch-p.new.buffer
       (omega (arith, c.loop-i-test.true))
 
 pub overflow_add-i : goal.overflow_add-i
 overflow_add-i c =
     let k = c.before.before.before in
-    omega (arith, within k, same k.before.before.before.before, k.loop-i-test.true, k.well-formed)
+    omega (arith, within k, same k.before.before.before.before, c.loop-i-test.true, c.well_formed)
 
 pub loop-i-smaller : goal.loop-i-smaller
 loop-i-smaller c =
     let k = c.before.before.before in
-    omega (arith, within k, goes_on k, same k.before.before.before.before, k.loop-i-test.true)
+    omega (arith, within k, goes_on k, same k.before.before.before.before, c.loop-i-test.true)
 
 pub loop-i-preserved : goal.loop-i-preserved
 loop-i-preserved c =
     let k = c.before.before.before in
-    let l = k.loop-i in
-    let s = k.args in
-    let n = k.stretch-p.result.done in
-    let m = k.stretch-p.new.1.1.1.0 in
-    let w = state_of k.stretch-p.result.head k.stretch-p.new.0 in
-    let o = k.loop-i-test.true in
+    let l = c.loop-i in
+    let s = c.args in
+    let n = c.stretch-p.result.done in
+    let m = c.stretch-p.new.buffer in
+    let w = state_of c.stretch-p.result.head c.stretch-p.new.line in
+    let o = c.loop-i-test.true in
     let e = fed_join s.fed l.i n l.buffer m (omega (arith, o))
     ∙ ap (fed_of s.fed (l.i + n)) (sym (joined k)) in (
       subst (λ (b : List ℤ). Rendered (fed_of s.fed 0 s.buffer.now) (begins k) b w (l.i + n)) e
-          (rendered-then l.inv.0 (part-fed k)),
+          (rendered-then l.invariant.0 (part-fed k)),
       (part k).1,
     )
 
@@ -122,7 +121,9 @@ returns c =
     let xs = fed_of s.fed 0 s.buffer.now in
     let b = fed_of s.fed l.i l.buffer in
     let o = c.loop-i-test.false in
-    let n : length b ≤ l.i = omega (arith, o, length-fed s.fed l.i l.buffer) in (
-      all_after xs v b u l.i l.invariant.0 n,
-      (sym (all-fed s.fed l.i l.buffer o) ∙ all-out xs v b u l.i l.invariant.0 n, l.invariant.1),
-    )
+    let n : length b ≤ l.i = omega (arith, o, length-fed s.fed l.i l.buffer) in
+    record {
+      line_after = all_after xs v b u l.i l.invariant.0 n;
+      buffer_after = sym (all-fed s.fed l.i l.buffer o) ∙ all-out xs v b u l.i l.invariant.0 n;
+      valid = l.invariant.1;
+    }

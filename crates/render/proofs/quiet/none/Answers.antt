@@ -14,14 +14,13 @@ use Rattle.render.proofs.quiet.none.Goals as goal
 
 pub returns-in-Idle : goal.returns-in-Idle
 returns-in-Idle c =
-    let s = c.before.before.before.before in
-    let h = s.args.h in
+    let h = c.args.h in
     let p : Led = record {
       ran = record { state = h.filter.state; last = h.last; done = 0 };
       next = h.filter.state;
     } in
-    let still : (h.at + 0) % 2112 ≡ h.at = omega (arith, s.requires.at) in
-    let w = c.enum_told-1.given.1 in (
+    let still : (h.at + 0) % 2112 ≡ h.at = omega (arith, c.requires.at) in
+    let w = c.in-Idle.is in (
       ap (λ (w : Waiting). gone_of w h p) w
           ∙ ap (λ (at : ℕ). carried_of h h.filter h.last at) still
           ∙ carried_self h refl w,
@@ -30,22 +29,21 @@ returns-in-Idle c =
 
 pub returns-in-Prepared : goal.returns-in-Prepared
 returns-in-Prepared c =
-    let g = c.w-1.given in
-    let s = c.before.before.before.before.before.before in
-    let h = s.args.h in
-    let e = g.0.1.0 in
-    let n = g.0.1.1.0 in
+    let h = c.args.h in
+    let g = c.in-Prepared in
+    let i = g.field-0 in
+    let n = g.field-2 in
     let p : Led = record {
       ran = record { state = h.filter.state; last = h.last; done = 0 };
-      next = e.state;
+      next = g.e.state;
     } in
-    let still : (h.at + 0) % 2112 ≡ h.at = omega (arith, s.requires.at) in
-    let waits : Preparing h.advance g.0.0 e n =
-    subst (λ (w : Waiting). Waiting-valid h.advance w) g.1 s.requires.waiting in
+    let still : (h.at + 0) % 2112 ≡ h.at = omega (arith, c.requires.at) in
+    let waits : Preparing h.advance i g.e n =
+    subst (λ (w : Waiting). Waiting-valid h.advance w) g.is c.requires.waiting in
     let taken : min (n + 0) h.advance ≡ n = omega (arith, waits.counted) in (
-      ap (λ (w : Waiting). gone_of w h p) g.1
-          ∙ ap (λ (at : ℕ). settled_of (carried_of h h.filter h.last at) g.0.0 e (min (n + 0) h.advance))
+      ap (λ (w : Waiting). gone_of w h p) g.is
+          ∙ ap (λ (at : ℕ). settled_of (carried_of h h.filter h.last at) i g.e (min (n + 0) h.advance))
           still
-          ∙ due_self h refl refl g.1 taken waits.early,
+          ∙ due_self h refl refl g.is taken waits.early,
       refl,
     )

@@ -14,4 +14,4 @@ returns-in-Announced c =
 
 pub returns-in-Asked : goal.returns-in-Asked
 returns-in-Asked c =
-    (omega arith, λ i. absurd (announced-asked i (ap kind_of c.enum_told-in-Asked-1.given.1)))
+    (omega arith, λ i. absurd (announced-asked i (ap kind_of c.in-Asked.is)))

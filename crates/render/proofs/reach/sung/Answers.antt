@@ -6,5 +6,4 @@ use Rattle.render.proofs.reach.sung.Goals as goal
 
 pub returns-in-Prepared : goal.returns-in-Prepared
 returns-in-Prepared c =
-    let s = c.before.before in
-    (omega arith, (omega (arith, s.requires.at), omega arith), λ h. absurd (omega arith))
+    (omega arith, (omega (arith, c.requires.at), omega arith), λ h. absurd (omega arith))
