@@ -13,16 +13,14 @@ use Rattle.block.proofs.rendered.Goals as goal
 
 pub render-requires : goal.render-requires
 render-requires c =
-    let k = c.before.before.before in
-    let s = k.before.before in
-    (s.requires.0.0, subst (λ (l : List ℤ). loudest l ≤ M) (sym k.copy.ensures) s.requires.1)
+    (c.requires.valid.0, subst (λ (l : List ℤ). loudest l ≤ M) (sym c.copy.ensures) c.requires.input_bound)
 
 pub returns : goal.returns
 returns c =
-    let k = c.before.before.before.before.before in
-    let s = k.args in
-    let v = state_of s.head s.line.now in
-    let r = c.render.ensures in (
-      r.0 ∙ ap (λ (l : List ℤ). block_after v l) k.copy.ensures,
-      (r.1.0 ∙ ap (λ (l : List ℤ). block_out v l) k.copy.ensures, r.1.1),
-    )
+    let v = state_of c.args.head c.args.line.now in
+    let r = c.render.ensures in
+    record {
+      line_after = r.line_after ∙ ap (λ (l : List ℤ). block_after v l) c.copy.ensures;
+      output_after = r.buffer_after ∙ ap (λ (l : List ℤ). block_out v l) c.copy.ensures;
+      valid_2 = r.valid;
+    }
