@@ -3,7 +3,6 @@
 use mathlib.Core.Path.{ap, ◌∙◌}
 use Prim.Native.Nat.{ℕ}
 use native.Mathlib.Omega.{arith}
-use borrow.Author.Rules.{rules}
 use Rattle.integer.specs.Rounding.{clip}
 use Rattle.octets.specs.Octets.{signed, half}
 use Rattle.octets.proofs.Theorems.{signed_fits}

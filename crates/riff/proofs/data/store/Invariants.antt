@@ -1,16 +1,9 @@
 -- `riff::data::store` meets its contract: what is left, laid from the next place on, makes the whole.
 -- Assumes nothing.
-use mathlib.Core.Path.{◌≡◌, refl, sym, ap, ◌∙◌}
-use mathlib.Core.List.{List}
-use Prim.Native.Nat.{ℕ, ◌+◌, ◌-◌, ◌*◌, ◌≤◌}
-use native.Mathlib.Omega.{arith}
-use borrow.Author.Rules.{rules}
-use lib.IntN.{ℤ, pos}
-use lib.ListN.{length, get_or, drop}
-use Rattle.samples.proofs.Samples.{loud}
-use Rattle.octets.specs.Octets.{bytes, bits, stored, laid}
-use Rattle.octets.proofs.Laws.{bytes-length, laid_nil, laid_next}
-use Rattle.octets.proofs.Lists.{stored-step, stored-end}
+use mathlib.Core.Path.{◌≡◌}
+use Prim.Native.Nat.{◌+◌, ◌-◌, ◌*◌, ◌≤◌}
+use lib.ListN.{length, drop}
+use Rattle.octets.specs.Octets.{stored, laid}
 use Rattle.riff.proofs.data.store.Given as goal
 
 abbrev pub invariant-loop-i : goal.invariant-loop-i

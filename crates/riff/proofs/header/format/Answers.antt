@@ -4,7 +4,6 @@ use native.Mathlib.Omega.{arith}
 use Rattle.octets.specs.Octets.{bytes}
 use Rattle.octets.proofs.Fields.{puts-laid}
 use Rattle.riff.proofs.Format.{format_fields}
-use borrow.Author.Rules.{rules}
 use Rattle.riff.proofs.header.format.Goals as goal
 
 pub returns : goal.returns

@@ -4,7 +4,6 @@ use mathlib.Core.Path.{◌≡◌, refl, ap, ◌∙◌}
 use mathlib.Core.List.{List, ◌++◌}
 use Prim.Native.Nat.{ℕ, ◌+◌, ◌*◌}
 use native.Mathlib.Omega.{arith}
-use borrow.Author.Rules.{rules}
 use Rattle.octets.specs.Octets.{bytes, laid}
 use Rattle.octets.proofs.Laws.{laid_next}
 use Rattle.riff.specs.Format.{data_size, riff_size, riff, format, data_head, header}
