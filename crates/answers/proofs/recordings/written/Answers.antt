@@ -13,5 +13,5 @@ slice_bounds-write-end c =
 
 pub slice_bounds-write-end-3 : goal.slice_bounds-write-end-3
 slice_bounds-write-end-3 c =
-    let s = c.before.before.before.before in
-    sym (length-take-le s.args.places s.args.file.now s.requires.1)
+    let a = c.args in
+    sym (length-take-le a.places a.file.now c.requires.1)

@@ -1,7 +1,0 @@
--- `answers::recordings::read` meets its contract: what is lent is printed last.
--- Assumes nothing.
-use borrow.Author.Rules.{rules}
-use Rattle.answers.proofs.recordings.read.Goals as goal
-
-pub returns : goal.returns
-returns c = c.samples.ensures.0 c.number-b.ensures.0
