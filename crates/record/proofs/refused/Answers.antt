@@ -9,7 +9,7 @@ returns-then-s-eq0 c =
     (cut_short s (omega (arith, c.if-s-eq0.true)), λ z. absurd (omega (arith, z)))
 
 pub overflow_cast-map : goal.overflow_cast-map
-overflow_cast-map c = omega (arith, c.shared_slice_known-2-1.given 0)
+overflow_cast-map c = omega (arith, c.type_inv.s 0)
 
 pub returns-then-s-bytes : goal.returns-then-s-bytes
 returns-then-s-bytes c =
