@@ -1,9 +1,6 @@
 -- The instances of `Keeps`: what the lists give by computation, the distance by the theorem.
-use mathlib.Core.Path.{◌≡◌, refl}
-use mathlib.Core.List.{List, [], ◌∷◌}
-use Prim.Native.Nat.{◌≤◌, ◌<◌}
+use mathlib.Core.Path.{refl}
 use native.Mathlib.Omega.{arith}
-use lib.IntN.{pos}
 use Rattle.integer.specs.Rounding.{floor, nearest, clip}
 use Rattle.integer.specs.Cut.{cut, R, Q}
 use Rattle.thiran.specs.Formula.{factor, a}

@@ -1,5 +1,5 @@
 -- Answers of `least` in numbers: computed.
-use mathlib.Core.Path.{◌≡◌, refl}
+use mathlib.Core.Path.{refl}
 use Rattle.integer.specs.Rounding.{nearest, floor}
 use Rattle.thiran.specs.Formula.{factor, a}
 use Rattle.thiran.specs.Coefficients.{coefficient, coefficients}

@@ -13,7 +13,6 @@ use Rattle.junction.specs.Calls.{area_outside}
 use Rattle.junction.specs.Calls.{Call, Opening, Outputs, open_limits, number, junction_at_rest, open_junction}
 use Rattle.junction.specs.Calls.{nothing, outputs, accept, call, put, answer, open_answer}
 use Rattle.tube.specs.declared.filters.Pair.{Pair}
-use Rattle.tube.specs.declared.Waiting.TheVariants.{Move}
 use Rattle.tube.specs.declared.Junction.{Junction}
 use Rattle.tube.specs.Struct.{pair_of, junction_of, next_filters, take_of}
 use Rattle.tube.specs.Valid.{Samples, Valid}

@@ -1,8 +1,7 @@
 -- `advance::least` meets its contract: what is not refused is taken, and its coefficients add up to their norm.
-use mathlib.Core.Path.{◌≡◌, refl, sym, ap, subst, ◌∙◌}
+use mathlib.Core.Path.{◌≡◌, refl, sym, ap, ◌∙◌}
 use Prim.Native.Nat.{ℕ, ◌+◌}
 use native.Mathlib.Omega.{arith}
-use borrow.Author.Rules.{rules}
 use lib.IntN.{nat_abs}
 use mir.Syntax.{w32}
 use Rattle.integer.proofs.View.{read}
@@ -15,7 +14,7 @@ use Rattle.thiran.proofs.Lists.{length-coefficients}
 use Rattle.thiran.proofs.Refusals.{takes, design-taken}
 use Rattle.thiran.proofs.Returns.{number_is}
 use Rattle.thiran.proofs.Small.{norm-coefficients}
-use Rattle.advance.specs.Least.{first, least_advance}
+use Rattle.advance.specs.Least.{first}
 use Rattle.advance.proofs.First.{three}
 use Rattle.advance.proofs.Refusals.{taken, turned, early, none, some}
 use Rattle.advance.proofs.least.Goals as goal

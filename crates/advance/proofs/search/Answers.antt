@@ -1,10 +1,10 @@
 -- `advance::search` meets its contract. The loop's invariant: b is b(k), and no advance below k times the order is
 -- enough. The measure is how many rounds are left.
-use mathlib.Core.Path.{◌≡◌, refl}
-use Prim.Native.Nat.{ℕ, ◌*◌, ◌-◌, ◌/◌, ◌≤◌, ◌<◌}
+use mathlib.Core.Path.{refl}
+use Prim.Native.Nat.{◌*◌, ◌≤◌}
 use native.Mathlib.Omega.{arith}
 use native.Mathlib.Nat.{mul-le-mul, mul-le-mul_left, mul-le-mul_right}
-use Rattle.allpass.specs.Bounds.{distance, own_figure}
+use Rattle.allpass.specs.Bounds.{distance}
 use Rattle.advance.proofs.First.{distance_next, figure-now, before-next, first-is, first_found}
 use Rattle.advance.proofs.search.Goals as goal
 

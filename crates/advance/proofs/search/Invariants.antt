@@ -1,11 +1,8 @@
 -- `advance::search` meets its contract. The loop's invariant: b is b(k), and no advance below k times the order is
 -- enough. The measure is how many rounds are left.
-use mathlib.Core.Path.{◌≡◌, refl}
+use mathlib.Core.Path.{◌≡◌}
 use Prim.Native.Nat.{ℕ, ◌*◌, ◌-◌, ◌/◌, ◌≤◌, ◌<◌}
-use native.Mathlib.Omega.{arith}
-use native.Mathlib.Nat.{mul-le-mul, mul-le-mul_left, mul-le-mul_right}
 use Rattle.allpass.specs.Bounds.{distance, own_figure}
-use Rattle.advance.proofs.First.{distance_next, figure-now, before-next, first-is, first_found}
 use Rattle.advance.proofs.search.Given as goal
 
 abbrev pub invariant-loop-k : goal.invariant-loop-k

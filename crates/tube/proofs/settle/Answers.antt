@@ -1,6 +1,5 @@
 -- `tube::settle` meets its contract: by what waits, and whether it has taken as many inputs as the advance.
 use native.Mathlib.Omega.{arith}
-use borrow.Author.Rules.{rules}
 use Rattle.junction.specs.Junction.{Move}
 use Rattle.tube.specs.Struct.{junction_of, states_of}
 use Rattle.tube.proofs.Junctions.{settle-none, settle-now, settle-later}

@@ -1,6 +1,5 @@
 -- `tube::filters::at_rest` meets its contract: two filters at rest.
 use native.Mathlib.Omega.{arith}
-use borrow.Author.Rules.{rules}
 use Rattle.tube.proofs.filters.at_rest.Goals as goal
 
 pub returns : goal.returns

@@ -1,5 +1,4 @@
 -- `tube::filters::feed_both` meets its contract: each side by itself.
-use borrow.Author.Rules.{rules}
 use Rattle.tube.proofs.filters.feed_both.Goals as goal
 
 pub returns : goal.returns

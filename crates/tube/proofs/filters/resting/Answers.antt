@@ -1,7 +1,6 @@
 -- `tube::filters::resting` meets its contract: the one coefficient of the delay, and a state of 0.
 use mathlib.Core.Path.{refl, ap}
 use native.Mathlib.Omega.{arith}
-use borrow.Author.Rules.{rules}
 use mir.Syntax.{w64}
 use mir.Facts.{to_z-of_z}
 use Rattle.integer.proofs.View.{abs_fits}

@@ -1,6 +1,5 @@
 -- `tube::memory::filter` meets its contract: two words.
 use native.Mathlib.Omega.{arith}
-use borrow.Author.Rules.{rules}
 use Rattle.signs.proofs.Signs.{read}
 use Rattle.tube.proofs.memory.filter.Goals as goal
 

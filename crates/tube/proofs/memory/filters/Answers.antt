@@ -1,5 +1,4 @@
 -- `tube::memory::filters` meets its contract: four words.
-use borrow.Author.Rules.{rules}
 use Rattle.tube.proofs.memory.filters.Goals as goal
 
 pub returns : goal.returns

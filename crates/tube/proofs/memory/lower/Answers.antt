@@ -1,6 +1,5 @@
 -- `tube::memory::lower` meets its contract: a word less 2^31.
 use native.Mathlib.Omega.{arith}
-use borrow.Author.Rules.{rules}
 use mir.Syntax.{w64}
 use mir.ValLaws.{to_z_pos}
 use Rattle.tube.proofs.memory.lower.Goals as goal

@@ -1,5 +1,4 @@
 -- `tube::memory::pack` meets its contract: part by part.
-use borrow.Author.Rules.{rules}
 use Rattle.tube.specs.Words.{from_words}
 use Rattle.tube.proofs.memory.pack.Goals as goal
 

@@ -1,6 +1,5 @@
 -- `tube::memory::raise` meets its contract: a small number and 2^31 fit a word.
 use mathlib.Core.Path.{◌≡◌, ◌∙◌}
-use borrow.Author.Rules.{rules}
 use lib.IntN.{pos, ◌+ℤ◌}
 use mir.Syntax.{w64}
 use mir.Val.{to_z, of_z}

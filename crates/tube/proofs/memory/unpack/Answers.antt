@@ -1,5 +1,4 @@
 -- `tube::memory::unpack` meets its contract: word by word.
-use borrow.Author.Rules.{rules}
 use Rattle.tube.specs.Words.{from_words}
 use Rattle.tube.proofs.memory.unpack.Goals as goal
 

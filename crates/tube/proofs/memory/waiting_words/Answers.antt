@@ -1,5 +1,4 @@
 -- `tube::memory::waiting_words` meets its contract: by what waits.
-use borrow.Author.Rules.{rules}
 use Rattle.tube.proofs.memory.waiting_words.Goals as goal
 
 pub filter_words-x-requires : goal.filter_words-x-requires

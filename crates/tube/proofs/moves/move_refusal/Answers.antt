@@ -1,7 +1,6 @@
 -- `tube::moves::move_refusal` meets its contract: two tests, one after the other.
 use mathlib.Core.Path.{refl}
 use mathlib.Core.List.{[], ◌∷◌}
-use borrow.Author.Rules.{rules}
 use Rattle.junction.specs.Calls.{delay_limit}
 use Rattle.tube.proofs.moves.move_refusal.Goals as goal
 

@@ -1,6 +1,5 @@
 -- `tube::moves::start_move` meets its contract: eliminators at rest, settled.
 use mathlib.Core.Path.{refl, sym, ◌∙◌}
-use borrow.Author.Rules.{rules}
 use Rattle.junction.specs.Calls.{move, accept, nothing}
 use Rattle.junction.specs.Calls as Rule
 use Rattle.junction.proofs.Accepted.{move-delay}

@@ -1,6 +1,5 @@
 -- `tube::open::area_outside` meets its contract: one test.
 use mathlib.Core.Path.{sym, ◌∙◌}
-use borrow.Author.Rules.{rules}
 use Rattle.tube.proofs.open.area_outside.Goals as goal
 
 pub returns-then-outside : goal.returns-then-outside

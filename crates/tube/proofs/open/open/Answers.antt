@@ -1,7 +1,6 @@
 -- `tube::open::open` meets its contract: a junction at rest, the one asked for or the refused one.
 use mathlib.Core.Path.{◌≡◌, sym, ◌∙◌}
 use native.Mathlib.Omega.{arith}
-use borrow.Author.Rules.{rules}
 use Rattle.refusal.specs.Limits.{Between, refusal}
 use Rattle.junction.specs.Calls.{Opening, open_limits}
 use Rattle.junction.specs.Refusals.{Areas}

@@ -2,7 +2,6 @@
 use mathlib.Core.Path.{refl}
 use mathlib.Core.List.{[], ◌∷◌}
 use native.Mathlib.Omega.{arith}
-use borrow.Author.Rules.{rules}
 use Rattle.junction.specs.Calls.{area_limit, delay_limit}
 use Rattle.tube.proofs.Junctions.{area_small}
 use Rattle.tube.proofs.open.open_refusal.Goals as goal

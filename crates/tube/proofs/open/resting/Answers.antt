@@ -1,6 +1,5 @@
 -- `tube::open::resting` meets its contract: all but r, d and the advance is 0.
 use native.Mathlib.Omega.{arith}
-use borrow.Author.Rules.{rules}
 use Rattle.tube.proofs.open.resting.Goals as goal
 
 pub returns : goal.returns

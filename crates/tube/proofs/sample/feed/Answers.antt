@@ -2,7 +2,6 @@
 use mathlib.Core.Path.{refl}
 use native.Mathlib.Omega.{arith}
 use native.Mathlib.Numerals.{add-one}
-use borrow.Author.Rules.{rules}
 use Rattle.tube.proofs.Tuned.{feeds, next_tunes, next-states}
 use Rattle.tube.proofs.sample.feed.Goals as goal
 

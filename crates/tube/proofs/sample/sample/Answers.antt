@@ -1,6 +1,5 @@
 -- `tube::sample::sample` meets its contract: refused, or a step.
 use mathlib.Core.Path.{◌≡◌, refl, sym, subst, ◌∙◌}
-use borrow.Author.Rules.{rules}
 use lib.IntN.{ℤ}
 use mir.Facts.{to_z-of_z}
 use Rattle.junction.specs.Junction.{Two, from_left, from_right}

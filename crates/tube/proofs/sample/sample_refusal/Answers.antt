@@ -3,7 +3,6 @@ use mathlib.Core.Path.{refl, sym, ◌∙◌}
 use mathlib.Core.List.{[]}
 use native.Mathlib.Omega.{arith}
 use borrow.Author.Tests.{leb-true, leb-false}
-use borrow.Author.Rules.{rules}
 use lib.IntN.{nat_abs}
 use Rattle.integer.specs.Rounding.{M}
 use Rattle.refusal.proofs.Returned.{here, past, is-met, kept-is}

@@ -1,7 +1,6 @@
 -- `tube::sample::step` meets its contract: the parts are those of the rule.
 use mathlib.Core.Path.{refl, ◌∙◌}
 use mathlib.Core.List.{[], ◌∷◌}
-use borrow.Author.Rules.{rules}
 use Rattle.integer.proofs.Rounding.{clip_abs}
 use Rattle.allpass.proofs.Bounds.{out_within}
 use Rattle.junction.specs.Junction.{filter_output, to_right, to_left}

@@ -1,6 +1,5 @@
 -- `tube::scatter::to_left` meets its contract: the sum is small enough.
 use native.Mathlib.Omega.{arith}
-use borrow.Author.Rules.{rules}
 use lib.IntN.{pos, ◌-ℤ◌}
 use Rattle.tube.proofs.Sums.{minus-r, product_small}
 use Rattle.tube.proofs.scatter.to_left.Goals as goal

@@ -1,6 +1,5 @@
 -- `tube::scatter::to_right` meets its contract: the sum is small enough.
 use native.Mathlib.Omega.{arith}
-use borrow.Author.Rules.{rules}
 use lib.IntN.{pos, ◌+ℤ◌}
 use Rattle.tube.proofs.Sums.{plus-r, product_small}
 use Rattle.tube.proofs.scatter.to_right.Goals as goal
