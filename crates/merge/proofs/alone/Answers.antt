@@ -47,22 +47,19 @@ returns-then-s-lt8 c =
     run-refused s (header-cut s c.if-s-lt8.true) (λ z. omega arith)
 
 pub returns-then-n-ne0 : goal.returns-then-n-ne0
-returns-then-n-ne0 c = run-refused (bytes c.before) (number_is c.before) c.if-n-ne0.true
+returns-then-n-ne0 c = let h = c.before.before in run-refused (bytes h) (number_is h) c.if-n-ne0.true
 
 pub play-requires : goal.play-requires
 play-requires c =
-    let e = c.before.before in
-    let h = e.before in
-    order_in (asked h) (sym h.header_number-n.ensures ∙ e.if-n-ne0.false)
+    let h = c.before.before.before.before in
+    order_in (asked h) (sym h.header_number-n.ensures ∙ c.if-n-ne0.false)
 
 pub returns : goal.returns
 returns c =
-    let o = c.before.before in
-    let e = o.before in
-    let h = e.before in
+    let h = c.before.before.before.before.before in
     let s = bytes h in
-    run-plays s c.play.result (sym (number_is h) ∙ e.if-n-ne0.false)
-    (subst (λ (u : Outline). PlaysAll (opening s).N (opening s).Na u (drop 8 s) c.play.result) o.opening_course.ensures
-    (subst (λ (x : Opening). PlaysAll x.N x.Na (outline_of o.opening_course.result) (drop 8 s) c.play.result) (same h)
-    (subst (λ (t : List ℕ). PlaysAll (asked h).N (asked h).Na (outline_of o.opening_course.result) t c.play.result)
+    run-plays s c.play.result (sym (number_is h) ∙ c.if-n-ne0.false)
+    (subst (λ (u : Outline). PlaysAll (opening s).N (opening s).Na u (drop 8 s) c.play.result) c.opening_course.ensures
+    (subst (λ (x : Opening). PlaysAll x.N x.Na (outline_of c.opening_course.result) (drop 8 s) c.play.result) (same h)
+    (subst (λ (t : List ℕ). PlaysAll (asked h).N (asked h).Na (outline_of c.opening_course.result) t c.play.result)
     (part_to_end s 8) c.play.ensures)))

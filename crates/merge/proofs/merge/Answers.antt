@@ -5,7 +5,6 @@ use mathlib.Core.Bool.{false}
 use mathlib.Core.List.{List}
 use Prim.Native.Nat.{ℕ, ◌≤◌}
 use native.Mathlib.Omega.{arith}
-use borrow.Author.Tests.{not-true, not-false}
 use lib.ListN.{length, take}
 use Rattle.octets.specs.Octets.{laid}
 use Rattle.octets.specs.Theorems.{Bytes}
@@ -24,8 +23,7 @@ use Rattle.merge.proofs.merge.Tie as tie
 header : (c : (lts.Else1 tie.the-claims reads.Pre reads.Post))
     → take 8 c.args.first.now ≡ take 8 c.args.second.now
 header c =
-    let k = c.before in
-    k.same_header.ensures.same (not-false k.same_header.result c.if-not-same_header.false)
+    c.same_header.ensures.same c.if-not-same_header.false
 
 -- ---- both scores end alone
 module _ (c : (lts.Else3 tie.the-claims reads.Pre reads.Post)) where
@@ -60,7 +58,7 @@ module _ (c : (lts.Else3 tie.the-claims reads.Pre reads.Post)) where
 walked : (c : (lts.After-walk tie.the-claims reads.Pre reads.Post))
     → let e = c.before.before.before.before.before.before.before.before in
     Walks (opening (a e)).N (opening (a e)).Na (opened (a e)) (merged_records (a e) (b e)) (lent e) false c.walk-m.result
-    c.walk-m.new.1.1.1.1.1.0
+    c.walk-m.new.out
 walked c =
     let e = c.before.before.before.before.before.before.before.before in
     walk_is (a e) (b e) (ha e) (hb e) (one e) (pa e) (pb e) c.wide-order.result
@@ -70,7 +68,7 @@ walked c =
 
 headed : (c : (lts.After-put_header tie.the-claims reads.Pre reads.Post))
     → let e = c.before.before.before.before.before.before.before.before.before.before.before.before.before.before in
-    c.put_header.new.0 ≡ laid (lent e) 0 (take 8 (a e))
+    c.put_header.new.out ≡ laid (lent e) 0 (take 8 (a e))
 headed c =
     let e = c.before.before.before.before.before.before.before.before.before.before.before.before.before.before in
     c.put_header.ensures
@@ -79,85 +77,82 @@ headed c =
 pub returns-then-not-same_header : goal.returns-then-not-same_header
 returns-then-not-same_header c =
     let r = c.refuse.ensures in
-    let k = c.before.before in
     let s = c.args in
     answer_as s.first.now s.second.now s.bytes.now (differs s.first.now s.second.now s.bytes.now
-    (λ e. k.same_header.ensures.differ (not-true k.same_header.result c.if-not-same_header.true) e)) r.0 r.1
+    (λ e. c.same_header.ensures.differ c.if-not-same_header.true e)) r.0 r.1
 
 pub returns-then-p-ne0 : goal.returns-then-p-ne0
 returns-then-p-ne0 c =
     let r = c.refuse-then-p-ne0.ensures in
-    let p = c.before.before.before in
     let s = c.args in
     answer_as s.first.now s.second.now s.bytes.now (not-alone s.first.now s.second.now s.bytes.now
-    (header c.before.before.before.before) (λ x. plays-not s.first.now p.alone-p.ensures.number c.if-p-ne0.true x.0)) r.0 r.1
+    (header c.before.before.before.before.before) (λ x. plays-not s.first.now c.alone-p.ensures.number c.if-p-ne0.true x.0)) r.0 r.1
 
 pub returns-then-q-ne0 : goal.returns-then-q-ne0
 returns-then-q-ne0 c =
     let r = c.refuse-then-q-ne0.ensures in
-    let p = c.before.before.before in
     let s = c.args in
     answer_as s.first.now s.second.now s.bytes.now (not-alone s.first.now s.second.now s.bytes.now
-    (header c.before.before.before.before.before.before.before) (λ x. plays-not s.second.now p.alone-q.ensures.number c.if-q-ne0.true x.1)) r.0 r.1
+    (header c.before.before.before.before.before.before.before.before) (λ x. plays-not s.second.now c.alone-q.ensures.number c.if-q-ne0.true x.1)) r.0 r.1
 
 pub returns-then-bytes-lt8 : goal.returns-then-bytes-lt8
 returns-then-bytes-lt8 c =
     let r = c.refuse-then-bytes-lt8.ensures in
-    let e = c.before.before in
+    let e = c.before.before.before in
     let s = c.args in
     answer_as s.first.now s.second.now s.bytes.now (not-merged s.first.now s.second.now s.bytes.now
     (one e) (pa e, pb e) (short (a e) (b e) (ha e) (hb e) (one e) (pa e) (pb e) (length s.bytes.now) c.if-bytes-lt8.true)) r.0 r.1
 
 pub bounds-first-0 : goal.bounds-first-0
-bounds-first-0 c = omega (arith, long c.before.before)
+bounds-first-0 c = omega (arith, long c.before.before.before)
 
 pub bounds-first-1 : goal.bounds-first-1
-bounds-first-1 c = omega (arith, long c.before.before.before.before)
+bounds-first-1 c = omega (arith, long c.before.before.before.before.before)
 
 pub opening_course-start-requires : goal.opening_course-start-requires
 opening_course-start-requires c =
-    eight (a c.before.before.before.before.before) (pa c.before.before.before.before.before).room (ended (a c.before.before.before.before.before) (pa c.before.before.before.before.before).room (pa c.before.before.before.before.before).ends)
+    let e = c.before.before.before.before.before.before in
+    eight (a e) (pa e).room (ended (a e) (pa e).room (pa e).ends)
 
 pub walk-m-requires : goal.walk-m-requires
 walk-m-requires c =
-    let e = c.before.before.before.before.before.before.before in
+    let e = c.before.before.before.before.before.before.before.before in
     walk_ready (a e) (b e) (ha e) (hb e) (one e) (pa e) (pb e) c.wide-order.result c.wide-advance.result
     c.opening_course-start.result c.wide-order.ensures c.wide-advance.ensures
     c.opening_course-start.ensures (length (lent e)) c.if-bytes-lt8.false
 
 pub returns-then-m-ne0 : goal.returns-then-m-ne0
 returns-then-m-ne0 c =
-    let w = c.before.before.before.before in
-    let e = c.before.before.before.before.before.before.before.before.before.before.before.before in
-    first_stops (a e) (b e) (ha e) (hb e) (one e) (pa e) (pb e) (lent e) w.walk-m.new.1.1.1.1.1.0 w.walk-m.result
+    let w = c.before.before.before.before.before in
+    let e = c.before.before.before.before.before.before.before.before.before.before.before.before.before in
+    first_stops (a e) (b e) (ha e) (hb e) (one e) (pa e) (pb e) (lent e) c.walk-m.new.out c.walk-m.result
     (walked w) c.if-m-ne0.true
 
 pub put_header-requires : goal.put_header-requires
 put_header-requires c =
-    let w = c.before.before.before.before.before in
-    let e = c.before.before.before.before.before.before.before.before.before.before.before.before.before in (
+    let w = c.before.before.before.before.before.before in
+    let e = c.before.before.before.before.before.before.before.before.before.before.before.before.before.before in (
       eight (a e) (pa e).room (ended (a e) (pa e).room (pa e).ends),
       subst (λ (l : List ℕ). 8 ≤ length l) (sym ((walked w).silent refl)) c.if-bytes-lt8.false,
     )
 
 pub walk-requires : goal.walk-requires
 walk-requires c =
-    let e = c.before.before.before.before.before.before.before.before.before.before.before.before.before.before.before.before.before in
-    let w = c.before.before.before.before.before.before.before.before.before in
+    let e = c.before.before.before.before.before.before.before.before.before.before.before.before.before.before.before.before.before.before in
+    let w = c.before.before.before.before.before.before.before.before.before.before in
     let l = c.if-bytes-lt8.false in
-    let h = header-same (a e) (b e) (ha e) (hb e) (one e) (pa e) (pb e) (lent e) l (headed c.before.before.before) in
+    let h = header-same (a e) (b e) (ha e) (hb e) (one e) (pa e) (pb e) (lent e) l (headed c.before.before.before.before) in
     walk_ready (a e) (b e) (ha e) (hb e) (one e) (pa e) (pb e) c.wide-order.result c.wide-advance.result
     c.opening_course-start.result c.wide-order.ensures c.wide-advance.ensures
-    c.opening_course-start.ensures (length c.put_header.new.0) (omega (arith, h, l))
+    c.opening_course-start.ensures (length c.put_header.new.out) (omega (arith, h, l))
 
 pub returns : goal.returns
 returns c =
-    let e = c.before.before.before.before.before.before.before.before.before.before.before.before.before.before.before.before.before.before.before.before in
-    let w = c.before.before.before.before.before.before.before.before.before.before.before.before in
-    let p = c.before.before.before.before.before.before in
-    let v = c.before.before in
-    second_walk (a e) (b e) (ha e) (hb e) (one e) (pa e) (pb e) (lent e) p.put_header.new.0 v.walk.new.1.1.1.1.1.0
-    v.walk.result ((walked w).accepted c.if-m-ne0.false).0 (headed p)
+    let e = c.before.before.before.before.before.before.before.before.before.before.before.before.before.before.before.before.before.before.before.before.before in
+    let w = c.before.before.before.before.before.before.before.before.before.before.before.before.before in
+    let p = c.before.before.before.before.before.before.before in
+    second_walk (a e) (b e) (ha e) (hb e) (one e) (pa e) (pb e) (lent e) c.put_header.new.out c.walk.new.out
+    c.walk.result ((walked w).accepted c.if-m-ne0.false).0 (headed p)
     (walk_is (a e) (b e) (ha e) (hb e) (one e) (pa e) (pb e) c.wide-order.result c.wide-advance.result
     c.opening_course-start.result c.wide-order.ensures c.wide-advance.ensures
-    c.opening_course-start.ensures v.walk.ensures)
+    c.opening_course-start.ensures c.walk.ensures)

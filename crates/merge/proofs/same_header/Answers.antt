@@ -28,19 +28,17 @@ module _ (c : (lts.After-shared_slice_known3 tie.the-claims reads.Pre reads.Post
 bound : (c : (lts.After-shared_slice_known3 tie.the-claims reads.Pre reads.Post goal.the-invariant-loop-i goal.the-decreases-loop-i))
     → (c.loop-i.i < length (one c)) × (c.loop-i.i < 8)
 bound c =
-    let h = c.before.before.before.before in
     let l = c.loop-i-test.true in
     let n = length-take 8 (one c) in
-    let e = h.header_length-n.ensures in
+    let e = c.header_length-n.ensures in
     (omega (arith, n, e, l), omega (arith, n, e, l))
 
 other : (c : (lts.After-shared_slice_known3 tie.the-claims reads.Pre reads.Post goal.the-invariant-loop-i goal.the-decreases-loop-i)) → c.loop-i.i < length (two c)
 other c =
-    let h = c.before.before.before.before in
     omega (
       arith,
       c.loop-i-test.true,
-      h.header_length.ensures,
+      c.header_length.ensures,
       length-take 8 (two c),
       c.if-header_length-n.false,
     )
@@ -57,17 +55,19 @@ pub loop-i-init : goal.loop-i-init
 loop-i-init c = (omega arith, λ k l. absurd (omega arith))
 
 pub bounds-a-i : goal.bounds-a-i
-bounds-a-i c = omega (arith, bound c)
+bounds-a-i c =
+    let n = length-take 8 c.args.a.now in
+    omega (arith, n, c.header_length-n.ensures, c.loop-i-test.true)
 
 pub bounds-b-i : goal.bounds-b-i
-bounds-b-i c = omega (arith, bound c.before, other c.before)
+bounds-b-i c = omega (arith, bound c.before.before, other c.before.before)
 
 pub returns-then-a-i : goal.returns-then-a-i
 returns-then-a-i c =
     let i = c.loop-i.i in
     let l = c.loop-i-test.true in
-    let k = c.before.before in
-    let b = bound c.before.before in
+    let k = c.before.before.before in
+    let b = bound k in
     record {
       same = λ e. absurd (cc-false e);
       differ = λ _ e. c.if-a-i.true

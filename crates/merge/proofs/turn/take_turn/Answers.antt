@@ -27,7 +27,7 @@ returns-then-t c =
     let s = t.before.before.before in
     let o = t.turn-t.ensures.own i.if-t.true in
     took-first s.args.order s.args.advance s.args.first.now s.args.second.now s.args.p h
-    k.step-x.result c.later-y.result k.step-x.new.1.1.1.1.1.0 o.0 o.1 o.2 k.step-x.ensures c.later-y.ensures
+    k.step-x.result c.later-y.result k.step-x.new.q o.0 o.1 o.2 k.step-x.ensures c.later-y.ensures
 
 pub later-x-requires : goal.later-x-requires
 later-x-requires c =
@@ -46,4 +46,4 @@ returns c =
     let s = t.before.before.before in
     let o = t.turn-t.ensures.other i.if-t.false in
     took-second s.args.order s.args.advance s.args.first.now s.args.second.now s.args.p h
-    y.later-x.result c.step-y.result c.step-y.new.1.1.1.1.1.0 o.0 o.1 o.2 y.later-x.ensures c.step-y.ensures
+    y.later-x.result c.step-y.result c.step-y.new.q o.0 o.1 o.2 y.later-x.ensures c.step-y.ensures

@@ -14,11 +14,11 @@ use Rattle.merge.proofs.turn.wait_left.Goals as goal
 -- the wait that was read
 wait-is : (c : goal.After-struct_known-1)
     → let s = c.args in
-    value c.read_record.new.1.0 0 ≡ value (next s.score.now s.s) 0
+    value c.read_record.new.fields 0 ≡ value (next s.score.now s.s) 0
 wait-is c =
     let s = c.args in
     ap (λ (l : List ℕ). value l 0)
-    (c.read_record.ensures.0 ∙ ap (λ (l : List ℕ). fields l) (part_to_end s.score.now s.s.at))
+    (c.read_record.ensures.fields_after ∙ ap (λ (l : List ℕ). fields l) (part_to_end s.score.now s.s.at))
 
 pub overflow_sub-result : goal.overflow_sub-result
 overflow_sub-result c = omega (arith, wait-is c, c.requires.early)

@@ -3,7 +3,6 @@ use borrow.Author.Rules.{rules}
 use mathlib.Core.Path.{◌≡◌, refl, sym, ap, subst, ◌∙◌}
 use mathlib.Core.Bool.{true, false}
 use native.Mathlib.Omega.{arith}
-use borrow.Author.Tests.{not-true, not-false}
 use lib.Dec.{T}
 use lib.ListN.{length}
 use Rattle.octets.proofs.Laws.{laid-length}
@@ -18,7 +17,7 @@ pub returns-then-not-writes : goal.returns-then-not-writes
 returns-then-not-writes c =
     let w = c.args.writes in
     record {
-      wrote = λ e. absurd (not-both (sym e ∙ not-true w c.if-not-writes.true));
+      wrote = λ e. absurd (not-both (sym e ∙ c.if-not-writes.true));
       silent = λ _. refl;
       same = refl;
     }
@@ -31,7 +30,7 @@ returns c =
     let q = s.args.q.now in
     record {
       wrote = λ _. e;
-      silent = λ z. absurd (not-both (sym (not-false w c.if-not-writes.false) ∙ z));
+      silent = λ z. absurd (not-both (sym c.if-not-writes.false ∙ z));
       same = ap length e
           ∙ laid-length s.args.out.now s.args.at (record_bytes q) (omega (arith, record-length q, s.requires.1));
     }

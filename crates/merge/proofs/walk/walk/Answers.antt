@@ -46,7 +46,7 @@ module _ (c : (lts.After-follow tie.the-claims reads.Pre reads.Post goal.the-inv
   walking = c.loop-p.invariant
 
   took : Took N Na first second walking.left c.loop-p.p c.take_turn-p.result
-      c.take_turn-p.new.1.1.1.1.1.0
+      c.take_turn-p.new.q
   took = c.take_turn-p.ensures walking.left walking.on_way
 
 pub loop-p-init : goal.loop-p-init
@@ -75,13 +75,13 @@ shape_of-out-then-e-ne0 c = c.loop-p.invariant.same
 
 pub returns-then-e-ne0 : goal.returns-then-e-ne0
 returns-then-e-ne0 c =
-    let f = c.before.before in
-    refused (N f) (Na f) (o f) (first f) (second f) (rs f) (lent f) (writes f) (walking f) (took f) f.follow-e.ensures
+    let f = c.before.before.before in
+    refused (N f) (Na f) (o f) (first f) (second f) (rs f) (lent f) (writes f) (walking f) (took f) c.follow-e.ensures
     c.if-e-ne0.true
 
 pub overflow_sub-out : goal.overflow_sub-out
 overflow_sub-out c =
-    let w = walking c.before.before.before in
+    let w = walking c.before.before.before.before in
     omega (arith, w.within, w.same)
 
 pub shape_of-out-then-out-done : goal.shape_of-out-then-out-done
@@ -89,13 +89,13 @@ shape_of-out-then-out-done c = c.loop-p.invariant.same
 
 pub returns-then-out-done : goal.returns-then-out-done
 returns-then-out-done c =
-    let f = c.before.before.before.before in
-    too_long (N f) (Na f) (o f) (first f) (second f) (rs f) (lent f) (writes f) (walking f) (took f) f.follow-e.ensures
+    let f = c.before.before.before.before.before in
+    too_long (N f) (Na f) (o f) (first f) (second f) (rs f) (lent f) (writes f) (walking f) (took f) c.follow-e.ensures
     c.size-n.ensures c.if-out-done.true
 
 pub put_next-requires : goal.put_next-requires
 put_next-requires c =
-    let f = c.before.before.before.before.before.before in
+    let f = c.before.before.before.before.before.before.before in
     let w = walking f in
     let e = c.size-n.ensures in
     let l = c.if-out-done.false in
@@ -103,16 +103,16 @@ put_next-requires c =
 
 pub overflow_add-done : goal.overflow_add-done
 overflow_add-done c =
-    let w = walking c.before.before.before.before.before.before.before.before.before.before in
-    omega (arith, c.if-out-done.false, w.within, w.same, c.well-formed)
+    let w = walking c.before.before.before.before.before.before.before.before.before.before.before in
+    omega (arith, c.if-out-done.false, w.within, w.same)
 
 pub loop-p-smaller : goal.loop-p-smaller
-loop-p-smaller c = (took c.before.before.before.before.before.before.before.before.before.before).less
+loop-p-smaller c = (took c.before.before.before.before.before.before.before.before.before.before.before).less
 
 pub loop-p-preserved : goal.loop-p-preserved
 loop-p-preserved c =
-    let f = c.before.before.before.before.before.before.before.before.before.before in
-    walks_on (N f) (Na f) (o f) (first f) (second f) (rs f) (lent f) (writes f) (walking f) (took f) f.follow-e.ensures
+    let f = c.before.before.before.before.before.before.before.before.before.before.before in
+    walks_on (N f) (Na f) (o f) (first f) (second f) (rs f) (lent f) (writes f) (walking f) (took f) c.follow-e.ensures
     c.if-e-ne0.false c.size-n.ensures c.if-out-done.false c.put_next.ensures
 
 pub shape_of-out : goal.shape_of-out
