@@ -1,10 +1,6 @@
 -- `wav::write` meets its contract: by the number of its tests.
 -- Assumes nothing.
 use mathlib.Core.Path.{◌≡◌, sym, ◌∙◌}
-use mathlib.Core.List.{List}
-use Prim.Native.Nat.{ℕ}
-use borrow.Author.Rules.{rules}
-use lib.IntN.{ℤ}
 use lib.ListN.{length}
 use Rattle.rule.proofs.Refusals.{unquiet}
 use Rattle.wav.specs.Written.{write_number}

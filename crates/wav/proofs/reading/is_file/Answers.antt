@@ -1,10 +1,7 @@
 -- `wav::reading::is_file` meets its contract: each part is as in a file, or one is not.
 -- Assumes nothing.
 use mathlib.Core.Path.{sym, ◌∙◌}
-use mathlib.Core.List.{List}
-use Prim.Native.Nat.{ℕ}
 use native.Mathlib.Omega.{arith}
-use borrow.Author.Rules.{rules}
 use Rattle.octets.specs.Theorems.{Bytes}
 use Rattle.wav.specs.Recorded.{is_file}
 use Rattle.wav.proofs.Flags.{clash, not_so, alike}

@@ -5,7 +5,6 @@ use mathlib.Core.Bool.{true}
 use mathlib.Core.Logic.{◌↔◌}
 use mathlib.Core.List.{List}
 use Prim.Native.Nat.{ℕ}
-use borrow.Author.Rules.{rules}
 use Rattle.riff.specs.Held.{rate_of, count_of}
 use Rattle.wav.specs.Refusals.{Rated, Room, IsFile, ReadReturns}
 use Rattle.wav.specs.Recorded.{reading_number}

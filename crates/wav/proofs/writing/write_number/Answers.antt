@@ -2,14 +2,10 @@
 -- Assumes nothing.
 use mathlib.Core.Path.{sym, ◌∙◌}
 use native.Mathlib.Omega.{arith}
-use borrow.Author.Rules.{rules}
 use borrow.Author.Tests.{leb-true, leb-false}
-use lib.ListN.{length}
 use Rattle.integer.specs.Rounding.{M}
 use Rattle.samples.specs.Samples.{loudest}
 use Rattle.rule.proofs.Refusals.{quiet, unquiet}
-use Rattle.riff.specs.Format.{file_size}
-use Rattle.wav.specs.Refusals.{Rated, Room}
 use Rattle.wav.proofs.Flags.{clash}
 use Rattle.wav.proofs.Refusals.{writes}
 use Rattle.wav.proofs.writing.write_number.Goals as goal
