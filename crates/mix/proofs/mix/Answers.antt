@@ -24,14 +24,18 @@ returns-then-input-output c =
     let s = c.args in
     let xs = s.input.now in
     let e = differ (strings_of s.heads.now s.lines.now) xs (length s.output.now) c.if-input-output.true in
-    refused xs s.output.now c.requires e (λ z. omega arith)
+    let r = refused xs s.output.now c.requires e (λ z. omega arith) in
+    record { played = r.0; output_after = r.1 }
 
 pub returns-then-not-sounds : goal.returns-then-not-sounds
 returns-then-not-sounds c =
     let s = c.args in
     let xs = s.input.now in
     let q = ltb-false 0 (loudest xs) (sym c.sounds.ensures ∙ c.if-not-sounds.true) in
-    rw (← zeros xs (length s.output.now) c.if-input-output.false q) c.play.ensures
+    rw (← zeros xs (length s.output.now) c.if-input-output.false q) (record {
+      played = c.play.ensures.played;
+      output_after = c.play.ensures.output_after;
+    })
 
 pub returns-then-not-all_samples : goal.returns-then-not-all_samples
 returns-then-not-all_samples c =
@@ -40,26 +44,23 @@ returns-then-not-all_samples c =
     let q = leb-false (loudest xs) M (sym c.all_samples.ensures ∙ c.if-not-all_samples.true) in
     let e = too_loud (strings_of s.heads.now s.lines.now) xs (length s.output.now)
     c.if-input-output.false q in
-    refused xs s.output.now c.requires e (λ z. omega arith)
+    let r = refused xs s.output.now c.requires e (λ z. omega arith) in
+    record { played = r.0; output_after = r.1 }
 
 -- what is not refused is of samples alone
-samples : (c : (lts.Else3 tie.the-claims reads.Pre reads.Post)) → loudest c.args.input.now ≤ M
-samples c = leb-true _ M (sym c.all_samples.ensures ∙ c.if-not-all_samples.false)
+samples : {xs : List ℤ} {r : Bool} → r ≡ leb (loudest xs) M → r ≡ true → loudest xs ≤ M
+samples {xs} e t = leb-true (loudest xs) M (sym e ∙ t)
 
 pub through-requires : goal.through-requires
 through-requires c =
-    let m = c.before.before.before.before.before.before in (
-      m.requires,
-      subst (λ (xs : List ℤ). loudest xs ≤ M) (sym c.copy.ensures) (samples m),
-    )
+    (c.requires, subst (λ (xs : List ℤ). loudest xs ≤ M) (sym c.copy.ensures) (samples c.all_samples.ensures c.if-not-all_samples.false))
 
 pub returns : goal.returns
 returns c =
-    let m = c.before.before.before.before.before.before.before.before in
-    let l = m.before.before.before.before in
-    let s = l.args in
-    let r = c.through in
-    let k = r.new in
-    accepted s.input.now s.output.now l.if-input-output.false (samples m)
-    (subst (λ (xs : List ℤ). Mixes s.heads.now s.lines.now xs k.0 k.1.0 k.1.1.1.0)
-    c.copy.ensures r.ensures)
+    let s = c.args in
+    let k = c.through.new in
+    let q = samples c.all_samples.ensures c.if-not-all_samples.false in
+    let a = accepted s.input.now s.output.now c.if-input-output.false q
+    (subst (λ (xs : List ℤ). Mixes s.heads.now s.lines.now xs k.heads k.lines k.buffer)
+    c.copy.ensures c.through.ensures) in
+    record { played = a.0; output_after = a.1 }

@@ -22,6 +22,7 @@ returns c =
     let n = length b in
     let xs = replicate n (pos 0) in
     let k = r.new in
-    accepted xs b (length-replicate n (pos 0)) (rw (← cleared-zeros b) (zeros-quiet b))
-    (subst (λ (ys : List ℤ). Mixes s.heads.now s.lines.now ys k.0 k.1.0 k.1.1.1.0)
-    (cleared-zeros b) r.ensures)
+    let a = accepted xs b (length-replicate n (pos 0)) (rw (← cleared-zeros b) (zeros-quiet b))
+    (subst (λ (ys : List ℤ). Mixes s.heads.now s.lines.now ys k.heads k.lines k.buffer)
+    (cleared-zeros b) r.ensures) in
+    record { played = a.0; output_after = a.1 }

@@ -18,7 +18,7 @@ pub after-k-requires : goal.after-k-requires
 after-k-requires c = (c.requires.fit.waiting, c.begin-p.ensures.done_bound)
 
 -- the first stretch
-module _ (c : (lts.After-after tie.the-claims reads.Pre reads.Post)) where
+module _ (c : (lts.After-after tie.the-claims reads.Pre reads.Post tie.handed_clauses)) where
   abbrev done : ℕ
   done = c.begin-p.result.ran.done
 

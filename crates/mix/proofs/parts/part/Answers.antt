@@ -7,18 +7,19 @@ use Rattle.mix.proofs.parts.part.Goals as goal
 
 pub slice_bounds-mix_part-end-2 : goal.slice_bounds-mix_part-end-2
 slice_bounds-mix_part-end-2 c =
-    sym (length-take-le (length c.args.buffer.now) c.args.room.now c.requires.1.0)
+    sym (length-take-le (length c.args.buffer.now) c.args.room.now c.requires.buffer_in_bounds.0)
 
 pub slice_bounds-mix_part-end-4 : goal.slice_bounds-mix_part-end-4
 slice_bounds-mix_part-end-4 c =
-    sym (length-take-le (length c.args.buffer.now) c.args.sums.now c.requires.1.1)
+    sym (length-take-le (length c.args.buffer.now) c.args.sums.now c.requires.buffer_in_bounds.1)
 
 pub mix_part-requires : goal.mix_part-requires
 mix_part-requires c =
-    let n = length c.args.buffer.now in (
-      c.requires.0,
-      (
-        sym (length-take-le n c.args.room.now c.requires.1.0),
-        sym (length-take-le n c.args.sums.now c.requires.1.1),
-      ),
-    )
+    let n = length c.args.buffer.now in
+    record {
+      voices = c.requires.voices;
+      buffer_len = (
+        sym (length-take-le n c.args.room.now c.requires.buffer_in_bounds.0),
+        sym (length-take-le n c.args.sums.now c.requires.buffer_in_bounds.1),
+      );
+    }

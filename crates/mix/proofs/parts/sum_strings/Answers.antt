@@ -19,37 +19,38 @@ use Rattle.mix.proofs.parts.sum_strings.Tie as tie
 
 pub render_string-requires : goal.render_string-requires
 render_string-requires c =
-    ((c.requires.0.0.valid 0 (omega arith), c.requires.1.1), c.requires.0.1)
+    record {
+      valid = (c.requires.voices.0.valid 0 (omega arith), c.requires.input_len.1);
+      input_bound = c.requires.voices.1;
+    }
 
 pub loop-k-init : goal.loop-k-init
 loop-k-init c = (omega arith, omega arith, refl, refl, λ s f. f)
 
 -- at the loop: the strings before, their input, and what the first k of them left
 module _ (p : (lts.At-loop tie.the-claims reads.Pre reads.Post goal.the-invariant-loop-k goal.the-decreases-loop-k)) where
-  abbrev start : (lts.Start tie.the-claims reads.Pre reads.Post goal.the-invariant-loop-k goal.the-decreases-loop-k)
-  start = p.before.before.before.before.before.before
-
   abbrev before : Strings
-  before = strings_of start.args.heads.now start.args.lines.now
+  before = strings_of p.args.heads.now p.args.lines.now
 
   abbrev fed-in : List ℤ
-  fed-in = fed_of start.args.fed 0 start.args.input.now
+  fed-in = fed_of p.args.fed 0 p.args.input.now
 
-  firsts : Firsts before fed-in p.loop.k p.loop.heads p.loop.lines p.loop.sums
-  firsts = p.loop.inv.4 before (firsts_one start.requires.0.0 p.render_string.ensures)
+  firsts : Firsts before fed-in p.loop-k.k p.loop-k.heads p.loop-k.lines p.loop-k.sums
+  firsts = p.loop-k.invariant.4 before (firsts_one p.requires.voices.0 p.render_string.ensures)
 
-  long : length start.args.input.now ≡ length p.loop.sums
-  long = sym (firsts_long firsts ∙ length-fed start.args.fed 0 start.args.input.now)
+  long : length p.args.input.now ≡ length p.loop-k.sums
+  long = sym (firsts_long firsts ∙ length-fed p.args.fed 0 p.args.input.now)
 
 pub add_string-requires : goal.add_string-requires
 add_string-requires c =
     let p = c.before.before.before.before.before in
-    let s = start p in
     let f = firsts p in
-    let k : p.loop-k.k ≤ 5 = omega arith in (
-      (f.voices.valid p.loop-k.k k, s.requires.1.0 ∙ sym p.loop-k.invariant.2),
-      ((long p, s.requires.0.1), firsts_quiet f k),
-    )
+    let k : c.loop-k.k ≤ 5 = omega arith in
+    record {
+      valid = (f.voices.valid c.loop-k.k k, c.requires.input_len.0 ∙ sym c.loop-k.invariant.2);
+      input_len = (long p, c.requires.voices.1);
+      sums_bound = firsts_quiet f k;
+    }
 
 pub loop-k-preserved : goal.loop-k-preserved
 loop-k-preserved c =
@@ -64,5 +65,5 @@ loop-k-preserved c =
 pub returns : goal.returns
 returns c =
     let p = c.before in
-    let k : p.loop-k.k ≡ 6 = omega (arith, p.loop-k.invariant.1) in
+    let k : c.loop-k.k ≡ 6 = omega (arith, c.loop-k.invariant.1) in
     firsts_all (firsts p) k

@@ -20,7 +20,7 @@ module _ (c : (lts.After-part_length tie.the-claims reads.Pre reads.Post goal.th
   end = c.loop-i.i + c.part_length-n.result
 
   inside : end ≤ length c.loop-i.buffer
-  inside = omega (arith, c.part_length-n.ensures.1, c.loop-i.inv.0.within)
+  inside = omega (arith, c.part_length-n.ensures.1, c.loop-i.invariant.0.within)
 
   goes_on : c.loop-i.i < end
   goes_on = omega (arith, c.part_length-n.ensures.2 (omega (arith, c.loop-i-test.true)))
@@ -37,11 +37,11 @@ part_length-n-requires c = tt
 pub overflow_add-i : goal.overflow_add-i
 overflow_add-i c =
     let p = c.before.before in
-    omega (arith, inside p, p.loop-i.invariant.0.long, p.well-formed)
+    omega (arith, inside p, p.loop-i.invariant.0.long, p.well_formed)
 
 pub offset_bounds-buffer-i : goal.offset_bounds-buffer-i
 offset_bounds-buffer-i c =
-    omega (arith, c.loop-i.invariant.0.within, c.loop-i.invariant.0.long, c.well-formed)
+    omega (arith, c.loop-i.invariant.0.within, c.loop-i.invariant.0.long, c.well_formed)
 
 pub slice_bounds-part-count : goal.slice_bounds-part-count
 slice_bounds-part-count c = omega arith
@@ -64,18 +64,19 @@ pub part-requires : goal.part-requires
 part-requires c =
     let p = c.before.before.before.before.before in
     let l = p.loop-i in
-    let w = l.inv.0 in
+    let w = l.invariant.0 in
     let e = end p in
     let n : e - l.i ≤ 64 = short p in
-    let m = mid_len l.i e l.buffer (inside p) in (
-      (w.voices, part-quiet w e (omega (arith, goes_on p))),
-      (omega (arith, m, n, l.inv.1), omega (arith, m, n, l.inv.2)),
-    )
+    let m = mid_len l.i e l.buffer (inside p) in
+    record {
+      voices = (w.voices, part-quiet w e (omega (arith, goes_on p)));
+      buffer_in_bounds = (omega (arith, m, n, l.invariant.1), omega (arith, m, n, l.invariant.2));
+    }
 
 pub overflow_add-i-in-loop-i : goal.overflow_add-i-in-loop-i
 overflow_add-i-in-loop-i c =
     let p = c.before.before.before.before.before.before.before.before.before in
-    omega (arith, inside p, p.loop-i.invariant.0.long, p.well-formed)
+    omega (arith, inside p, p.loop-i.invariant.0.long, p.well_formed)
 
 pub loop-i-smaller : goal.loop-i-smaller
 loop-i-smaller c =

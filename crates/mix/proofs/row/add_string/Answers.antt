@@ -23,14 +23,14 @@ add-requires c =
     let r = c.render_string in
     let v = state_of (head_of c.args.head.now) c.args.line.now in
     let xs = fed_of c.args.fed 0 c.args.input.now in
-    let n : length r.new.1.1.1.1.0 ≡ length c.args.sums.now
+    let n : length r.new.output ≡ length c.args.sums.now
     = ap length r.ensures.out
     ∙ length-out v xs
     ∙ length-fed c.args.fed 0 c.args.input.now
-    ∙ c.requires.1.0.0 in
-    let q : loudest r.new.1.1.1.1.0 ≤ M
+    ∙ c.requires.input_len.0 in
+    let q : loudest r.new.output ≤ M
     = subst (λ (l : List ℤ). loudest l ≤ M) (sym r.ensures.out) (out-quiet v xs) in
-    ((n, q), c.requires.1.1)
+    record { samples_len = (n, q); sums_bound = c.requires.sums_bound }
 
 pub returns : goal.returns
 returns c =

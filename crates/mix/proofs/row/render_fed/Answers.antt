@@ -11,8 +11,8 @@ returns c =
     let e = c.render-k.ensures in
     record {
       after = record {
-        state = rw (← c.unpack-h.ensures, c.pack-w.ensures) e.0;
-        valid = rw c.pack-w.ensures e.1.1;
+        state = rw (← c.unpack-h.ensures, c.pack-w.ensures) e.line_after;
+        valid = rw c.pack-w.ensures e.valid;
       };
-      out = rw (← c.unpack-h.ensures) e.1.0;
+      out = rw (← c.unpack-h.ensures) e.buffer_after;
     }

@@ -26,8 +26,8 @@ returns c =
     let r = c.play.ensures in
     record {
       after = record {
-        state = r.0.state ∙ call-accepted (state_of h l) (block xs n) (sym e);
-        valid = r.0.valid;
+        state = r.on.state ∙ call-accepted (state_of h l) (block xs n) (sym e);
+        valid = r.on.valid;
       };
-      out = r.1 ∙ sym (block-lent h l xs n e (block_out (state_of h l) xs) b refl);
+      out = r.output_after ∙ sym (block-lent h l xs n e (block_out (state_of h l) xs) b refl);
     }

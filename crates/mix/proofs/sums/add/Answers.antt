@@ -27,8 +27,8 @@ total-y-requires c =
     let b = get_or c.args.samples.now l.i (pos 0) in
     let e = l.invariant.1 l.i (omega arith) in
     rw (read w32 a c.total-arg-1.given e, read w32 b c.total-arg-in-loop-i-1.given refl) (
-      omega (arith, loud c.args.sums.now l.i, c.requires.1),
-      omega (arith, loud c.args.samples.now l.i, c.requires.0.1),
+      omega (arith, loud c.args.sums.now l.i, c.requires.sums_bound),
+      omega (arith, loud c.args.samples.now l.i, c.requires.samples_len.1),
     )
 
 pub loop-i-preserved : goal.loop-i-preserved
@@ -39,9 +39,9 @@ loop-i-preserved c =
     let a = get_or l.sums l.i (pos 0) in
     let b = get_or x l.i (pos 0) in
     let i : l.i < length x = omega arith in
-    let k : l.i < length u = omega (arith, c.requires.0.0) in
+    let k : l.i < length u = omega (arith, c.requires.samples_len.0) in
     let e =
-    read w32 c.total-y.result c.total-y.type-inv
+    read w32 c.total-y.result c.total-y.type_inv
     (c.total-y.ensures
     ∙ ap₂ ◌+ℤ◌ (read w32 a c.total-arg-1.given (l.invariant.1 l.i (omega arith)))
     (read w32 b c.total-arg-in-loop-i-1.given refl)
@@ -56,4 +56,4 @@ returns c =
     let l = c.loop-i in
     let u = c.args.sums.now in
     let x = c.args.samples.now in
-    all-taken (plus u x) l.sums l.i l.invariant.0 (omega (arith, length-plus u x, c.requires.0.0))
+    all-taken (plus u x) l.sums l.i l.invariant.0 (omega (arith, length-plus u x, c.requires.samples_len.0))

@@ -25,7 +25,7 @@ loop-i-preserved c =
     let x = get_or u l.i (pos 0) in
     let k : l.i < length u = omega arith in
     let e =
-    read w32 c.clipped-y.result c.clipped-y.type-inv
+    read w32 c.clipped-y.result c.clipped-y.type_inv
     (c.clipped-y.ensures ∙ ap clip (read w32 x c.clipped-arg-1.given refl)
     ∙ clip-at u l.i k) in (
       one_more (map clip u) l.output l.i l.invariant.0 _ (omega (arith, length-map u clip)) e,
