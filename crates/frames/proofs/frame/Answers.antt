@@ -39,7 +39,7 @@ returns-then-s-ne0 c =
 
 module _ (c : goal.After-struct_told-1) where
   read-x : to_z w64 (of_z w64 c.enter-s.result.n) ≡ (enters c.args.x).n
-  read-x = to_z-of_z (record { sfits = c.struct_told-1.given.1.0.1 }) ∙ sample-is c.before.before.before.before.before
+  read-x = to_z-of_z {w = w64} (record { sfits = c.struct_told-1.given.1.0.1 }) ∙ sample-is c.before.before.before.before.before
 
 pub sides-requires : goal.sides-requires
 sides-requires c =

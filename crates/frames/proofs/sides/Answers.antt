@@ -47,14 +47,14 @@ module _ (c : (lts.After-side2 tie.the-claims reads.Pre reads.Post)) where
 
 module _ (c : goal.After-struct_told-1) where
   read_a : to_z w64 (of_z w64 (a c.before.before)) ≡ a c.before.before
-  read_a = to_z-of_z (record { sfits = c.struct_told-1.given.0.1 })
+  read_a = to_z-of_z {w = w64} (record { sfits = c.struct_told-1.given.0.1 })
 
 pub overflow_cast-a : goal.overflow_cast-a
 overflow_cast-a c = rw (read_a c) (fits-a c.before.before)
 
 module _ (c : goal.After-struct_told-2-1) where
   read-b : to_z w64 (of_z w64 (b c.before.before.before.before)) ≡ b c.before.before.before.before
-  read-b = to_z-of_z (record { sfits = c.struct_told-2-1.given.0.1 })
+  read-b = to_z-of_z {w = w64} (record { sfits = c.struct_told-2-1.given.0.1 })
 
 pub overflow_cast-b : goal.overflow_cast-b
 overflow_cast-b c = rw (read-b c) (fits-b c.before.before.before.before)

@@ -1,11 +1,13 @@
 -- `mix::mix` meets its contract: each refusal leaves everything, an input of zeros is not read, and any
 -- other is mixed in place of the copy.
 use mathlib.Core.Path.{◌≡◌, sym, subst, ◌∙◌}
+use mathlib.Core.Bool.{Bool, true}
 use mathlib.Core.List.{List}
 use Prim.Native.Nat.{◌≤◌}
 use native.Mathlib.Omega.{arith}
 use borrow.Author.Rules.{rules}
-use borrow.Author.Tests.{ltb-false, leb-true, leb-false, not-true, not-false}
+use borrow.Author.Tests.{ltb-false, leb-true, leb-false}
+use lib.Dec.{leb}
 use lib.IntN.{ℤ}
 use lib.ListN.{length}
 use Rattle.integer.specs.Rounding.{M}
@@ -15,9 +17,6 @@ use Rattle.strings.specs.Rows.{strings_of}
 use Rattle.mix.specs.Rendered.{Mixes}
 use Rattle.mix.proofs.Mixed.{differ, too_loud, refused, accepted}
 use Rattle.mix.proofs.mix.Goals as goal
-use Rattle.mix.proofs.mix.Lts as lts
-use Rattle.mix.proofs.mix.Reads as reads
-use Rattle.mix.proofs.mix.Tie as tie
 
 pub returns-then-input-output : goal.returns-then-input-output
 returns-then-input-output c =
@@ -48,18 +47,18 @@ returns-then-not-all_samples c =
     record { played = r.0; output_after = r.1 }
 
 -- what is not refused is of samples alone
-samples : {xs : List ℤ} {r : Bool} → r ≡ leb (loudest xs) M → r ≡ true → loudest xs ≤ M
-samples {xs} e t = leb-true (loudest xs) M (sym e ∙ t)
+samples : (xs : List ℤ) {r : Bool} → r ≡ leb (loudest xs) M → r ≡ true → loudest xs ≤ M
+samples xs e t = leb-true (loudest xs) M (sym e ∙ t)
 
 pub through-requires : goal.through-requires
 through-requires c =
-    (c.requires, subst (λ (xs : List ℤ). loudest xs ≤ M) (sym c.copy.ensures) (samples c.all_samples.ensures c.if-not-all_samples.false))
+    (c.requires, subst (λ (xs : List ℤ). loudest xs ≤ M) (sym c.copy.ensures) (samples c.args.input.now c.all_samples.ensures c.if-not-all_samples.false))
 
 pub returns : goal.returns
 returns c =
     let s = c.args in
     let k = c.through.new in
-    let q = samples c.all_samples.ensures c.if-not-all_samples.false in
+    let q = samples s.input.now c.all_samples.ensures c.if-not-all_samples.false in
     let a = accepted s.input.now s.output.now c.if-input-output.false q
     (subst (λ (xs : List ℤ). Mixes s.heads.now s.lines.now xs k.heads k.lines k.buffer)
     c.copy.ensures c.through.ensures) in

@@ -28,7 +28,7 @@ pub loop-k-init : goal.loop-k-init
 loop-k-init c = (omega arith, omega arith, refl, refl, λ s f. f)
 
 -- at the loop: the strings before, their input, and what the first k of them left
-module _ (p : (lts.At-loop tie.the-claims reads.Pre reads.Post goal.the-invariant-loop-k goal.the-decreases-loop-k)) where
+module _ (p : (lts.At-loop tie.the-claims reads.Pre reads.Post goal.the-invariant-loop-k goal.the-decreases-loop-k tie.handed_clauses)) where
   abbrev before : Strings
   before = strings_of p.args.heads.now p.args.lines.now
 

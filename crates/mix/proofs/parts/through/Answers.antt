@@ -15,7 +15,7 @@ pub loop-i-init : goal.loop-i-init
 loop-i-init c = (begins c.args.fed c.args.buffer.now c.requires.0 c.requires.1, refl, refl)
 
 -- a c.before.before of the loop: where its part ends
-module _ (c : (lts.After-part_length tie.the-claims reads.Pre reads.Post goal.the-invariant-loop-i goal.the-decreases-loop-i)) where
+module _ (c : (lts.After-part_length tie.the-claims reads.Pre reads.Post goal.the-invariant-loop-i goal.the-decreases-loop-i tie.handed_clauses)) where
   abbrev end : ℕ
   end = c.loop-i.i + c.part_length-n.result
 
