@@ -150,10 +150,10 @@ input-requires c = c.loop-i-test.true
 
 pub mixed-s-requires : goal.mixed-s-requires
 mixed-s-requires c = (
-      subst (λ (z : ℤ). nat_abs z ≤ M) (sym c.input.ensures) (input-small c.before.before.before.before),
-      c.sound-o.ensures.small,
-      c.looped-b.ensures.1,
-    )
+  subst (λ (z : ℤ). nat_abs z ≤ M) (sym c.input.ensures) (input-small c.before.before.before.before),
+  c.sound-o.ensures.small,
+  c.looped-b.ensures.1,
+)
 
 -- once s(n) is made
 module _ (c : lts.After-mixed tie.the-claims reads.Pre reads.Post goal.the-invariant-loop-i goal.the-decreases-loop-i tie.handed_clauses) where
