@@ -73,7 +73,7 @@ returns c =
     let f = p.side-a.ensures in
     let g = t.side-b.ensures in
     let S = strings_of s.heads.now s.lines.now in
-    let e = rw (read_a i.before.before, read-b i, to_z-of_z (fits-a t), to_z-of_z (fits-b t)) c.frame_of.ensures in
+    let e = rw (read_a i.before.before, read-b i, to_z-of_z (fits-a t), to_z-of_z (fits-b t)) at c.frame_of.ensures in
     record {
       frame = e ∙ ap₂ frame_of (f.value ∙ frames.left_is S) (right_is s.x.n f g ∙ frames.right_is S);
       states = six_are s.x.n f g;
