@@ -32,8 +32,8 @@ loop-i-preserved c =
     let w = c.four in
     let e = c.magnitude.ensures ∙ ap nat_abs (word_read s.s.now (s.at + 4 * i) w.result w.ensures.0) in
     elim c.if-magnitude-gt8388607.branch [
-      then-magnitude-gt8388607 t ↦
-        (omega arith, rw t.good-is (too_loud s.s.now s.at i c.magnitude.result e t.if-magnitude-gt8388607.true))
+      | then-magnitude-gt8388607 t ↦
+          (omega arith, rw t.good-is (too_loud s.s.now s.at i c.magnitude.result e t.if-magnitude-gt8388607.true))
       | else-magnitude-gt8388607 t ↦ (
         omega arith,
         rw t.good-is (one_more s.s.now s.at i c.magnitude.result l.good e t.if-magnitude-gt8388607.false l.invariant.1),

@@ -14,7 +14,7 @@ use Rattle.mix.proofs.parts.through.Tie as tie
 pub loop-i-init : goal.loop-i-init
 loop-i-init c = (begins c.args.fed c.args.buffer.now c.requires.0 c.requires.1, refl, refl)
 
--- a c.before.before of the loop: where its part ends
+-- a pass of the loop: where its part ends
 module _ (c : (lts.After-part_length tie.the-claims reads.Pre reads.Post goal.the-invariant-loop-i goal.the-decreases-loop-i tie.handed_clauses)) where
   abbrev end : ℕ
   end = c.loop-i.i + c.part_length-n.result
@@ -45,14 +45,6 @@ offset_bounds-buffer-i c =
 
 pub slice_bounds-part-count : goal.slice_bounds-part-count
 slice_bounds-part-count c = omega arith
-
--- TODO: no goal for Need-slice-bounds-part-start
--- part-part-start : tie.Need-slice-bounds-part-start invariant-loop decreases-loop
--- part-part-start c = omega arith
-
--- TODO: no goal for Need-slice-bounds-part-end
--- part-part-end : tie.Need-slice-bounds-part-end invariant-loop decreases-loop
--- part-part-end c = inside c.before.before
 
 pub slice_bounds-part-end-in-loop-i : goal.slice_bounds-part-end-in-loop-i
 slice_bounds-part-end-in-loop-i c = sym c.loop-i.invariant.1

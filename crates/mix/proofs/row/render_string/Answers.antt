@@ -14,12 +14,11 @@ use Rattle.mix.specs.Rendered.{Rendered}
 use Rattle.mix.proofs.row.render_string.Goals as goal
 
 pub render_fed-requires : goal.render_fed-requires
-render_fed-requires c =
-    (
-      c.requires.valid.0,
-      subst (λ (xs : List ℤ). loudest xs ≤ M) (sym c.copy.ensures)
-          (subst (λ (b : Bool). loudest (fed_of b 0 c.args.input.now) ≤ M) c.if-fed.true c.requires.input_bound),
-    )
+render_fed-requires c = (
+  c.requires.valid.0,
+  subst (λ (xs : List ℤ). loudest xs ≤ M) (sym c.copy.ensures)
+      (subst (λ (b : Bool). loudest (fed_of b 0 c.args.input.now) ≤ M) c.if-fed.true c.requires.input_bound),
+)
 
 pub returns-then-fed : goal.returns-then-fed
 returns-then-fed c =
