@@ -1,7 +1,6 @@
 -- `answers::fields` meets its contract: each place is within the nine numbers.
 -- Assumes nothing.
 use Prim.Native.Nat.{◌-◌, ◌≤◌}
-use borrow.Author.Rules.{rules}
 use lib.ListN.{length}
 use Rattle.answers.proofs.fields.Given as goal
 

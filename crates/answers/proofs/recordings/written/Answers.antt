@@ -3,7 +3,6 @@
 use mathlib.Core.Path.{sym}
 use native.Mathlib.Omega.{arith}
 use lib.Seq.{length-take-le}
-use borrow.Author.Rules.{rules}
 use Rattle.answers.proofs.recordings.written.Goals as goal
 
 pub slice_bounds-write-end : goal.slice_bounds-write-end
