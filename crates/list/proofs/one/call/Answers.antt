@@ -12,20 +12,16 @@ use Rattle.list.proofs.one.call.Goals as goal
 
 pub returns-then-kind-eq4 : goal.returns-then-kind-eq4
 returns-then-kind-eq4 c =
-    let t = c.before in
-    let a = t.args in
-    instantly a.head a.line.now a.a a.b a.c c.instant.result t.if-kind-eq4.true
-    (λ xs. record { made = c.instant.ensures.0; count = c.instant.ensures.1 })
+    let a = c.args in
+    let r = c.instant in
+    instantly a.head a.line.now a.a a.b a.c r.result c.if-kind-eq4.true
+    (λ xs. record { made = r.ensures.on; count = r.ensures.count_value })
 
 pub apart-requires : goal.apart-requires
-apart-requires c =
-    let s = c.before in (s.requires.0.fit, s.requires.1, c.if-kind-eq4.false, s.requires.2)
+apart-requires c = (c.requires.0.fit, c.requires.1, c.if-kind-eq4.false, c.requires.2)
 
 pub returns : goal.returns
 returns c =
-    let p = c.before in
-    let e = p.before in
-    let s = e.before in
-    let a = s.args in
-    λ xs. uncounted (on a.line.now (p.apart.ensures xs) s.requires.0.line) c.uncounted.ensures
-    (counts-none (voice_of a.head) (back (ring a.head.at a.line.now)) a.kind a.a a.b a.c xs e.if-kind-eq4.false)
+    let a = c.args in
+    λ xs. uncounted (on a.line.now (c.apart.ensures xs) c.requires.0.line) c.uncounted.ensures
+    (counts-none (voice_of a.head) (back (ring a.head.at a.line.now)) a.kind a.a a.b a.c xs c.if-kind-eq4.false)

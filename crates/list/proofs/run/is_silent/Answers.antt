@@ -18,16 +18,11 @@ pub returns-then-w : goal.returns-then-w
 returns-then-w c = λ e. absurd (false≢true e)
 
 pub slice_bounds-sounds-end : goal.slice_bounds-sounds-end
-slice_bounds-sounds-end c =
-    let s = c.before.before.before.before.before in
-    sym (length-take-le s.args.w.takes s.args.input.now s.requires.1)
+slice_bounds-sounds-end c = sym (length-take-le c.args.w.takes c.args.input.now c.requires.1)
 
 pub returns : goal.returns
 returns c z =
-    let i = c.before.before in
-    let k = i.before.before in
-    let s = k.before.before in
-    let w = s.args.w in
-    let n : w.takes ≡ w.a = s.requires.0 ∙ ap (λ (d : ℕ). takes d w.a) k.if-w-ne0.false in
+    let w = c.args.w in
+    let n : w.takes ≡ w.a = c.requires.0 ∙ ap (λ (d : ℕ). takes d w.a) c.if-w-ne0.false in
     let q = ltb-false 0 _ (sym c.sounds.ensures ∙ not-true _ z) in
-    (k.if-w-ne0.false, i.if-w.false, subst (λ (n : ℕ). loudest (take n s.args.input.now) ≤ 0) n q)
+    (c.if-w-ne0.false, c.if-w.false, subst (λ (n : ℕ). loudest (take n c.args.input.now) ≤ 0) n q)

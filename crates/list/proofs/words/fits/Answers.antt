@@ -12,10 +12,8 @@ returns-then-inputs-takes c =
 
 pub returns-then-outputs-lends : goal.returns-then-outputs-lends
 returns-then-outputs-lends c =
-    let b = c.before in
-    simp (le-leb _ _ b.if-kind-gt-LAST_KIND.false, le-leb _ _ b.if-inputs-takes.false, lt-leb _ _ c.if-outputs-lends.true)
+    simp (le-leb _ _ c.if-kind-gt-LAST_KIND.false, le-leb _ _ c.if-inputs-takes.false, lt-leb _ _ c.if-outputs-lends.true)
 
 pub returns : goal.returns
 returns c =
-    let b = c.before in
-    simp (le-leb _ _ b.if-kind-gt-LAST_KIND.false, le-leb _ _ b.if-inputs-takes.false, le-leb _ _ c.if-outputs-lends.false)
+    simp (le-leb _ _ c.if-kind-gt-LAST_KIND.false, le-leb _ _ c.if-inputs-takes.false, le-leb _ _ c.if-outputs-lends.false)

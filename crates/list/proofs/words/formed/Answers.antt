@@ -6,7 +6,6 @@ use mathlib.Core.Path.{◌≡◌, refl, sym, ap, ◌∙◌}
 use mathlib.Core.Bool.{Bool, true, false, ◌&&◌}
 use native.Mathlib.Omega.{arith}
 use borrow.Author.Rules.{rules}
-use borrow.Author.Tests.{not-true, not-false}
 use lib.ListN.{length, drop}
 use Rattle.list.specs.declared.words.Item.{Item}
 use Rattle.list.specs.Words.{formed}
@@ -20,12 +19,9 @@ pub loop-at-init : goal.loop-at-init
 loop-at-init c = (omega arith, refl)
 
 -- where a call was tested: with those behind it, it is in form just where all are
-module _ (c : (lts.After-fits2 tie.the-claims reads.Pre reads.Post goal.the-invariant-loop-at goal.the-decreases-loop-at)) where
-  abbrev start : (lts.Start tie.the-claims reads.Pre reads.Post goal.the-invariant-loop-at goal.the-decreases-loop-at)
-  start = c.before.before.before.before.before
-
+module _ (c : lts.After-fits tie.the-claims reads.Pre reads.Post goal.the-invariant-loop-at goal.the-decreases-loop-at) where
   abbrev ws : List ℕ
-  ws = start.args.words.now
+  ws = c.args.words.now
 
   abbrev at : ℕ
   at = c.loop-at.at
@@ -41,36 +37,31 @@ module _ (c : (lts.After-fits2 tie.the-claims reads.Pre reads.Post goal.the-inva
       formed (drop (at + 4) ws) (c.loop-at.inputs - w.takes) (c.loop-at.outputs - w.lends)
       (c.loop-at.numbers - 1)
 
-  both : (b : Bool) → c.fits2.result ≡ b
-      → (b && behind) ≡ formed ws start.args.inputs start.args.outputs start.args.numbers
+  both : (b : Bool) → c.fits.result ≡ b
+      → (b && behind) ≡ formed ws c.args.inputs c.args.outputs c.args.numbers
   both b e =
-      ap (λ (t : Bool). t && behind) (sym e ∙ c.fits2.ensures)
+      ap (λ (t : Bool). t && behind) (sym e ∙ c.fits.ensures)
       ∙ sym (formed-four ws at room w c.item_at-w.ensures _ _ _)
-      ∙ c.loop-at.inv.1
+      ∙ c.loop-at.invariant.1
+
+  -- it fits
+  passes : c.fits.result ≡ true → Fits w.kind w.takes w.lends c.loop-at.inputs c.loop-at.outputs c.loop-at.numbers
+  passes e = fits_are _ _ _ _ _ _ (sym c.fits.ensures ∙ e)
 
 pub returns-then-not-fits : goal.returns-then-not-fits
-returns-then-not-fits c = both c.before false (not-true c.fits2.result c.if-not-fits.true)
-
--- it fits
-module _ (c : (lts.Else1 tie.the-claims reads.Pre reads.Post goal.the-invariant-loop-at goal.the-decreases-loop-at)) where
-  fits : c.fits2.result ≡ true
-  fits = not-false c.fits2.result c.if-not-fits.false
-
-  passes : let b = c.before in let l = b.loop-at in
-      Fits (w b).kind (w b).takes (w b).lends l.inputs l.outputs l.numbers
-  passes = fits_are _ _ _ _ _ _ (sym c.fits2.ensures ∙ fits)
+returns-then-not-fits c = both c.before.before false c.if-not-fits.true
 
 pub overflow_sub-inputs : goal.overflow_sub-inputs
-overflow_sub-inputs c = (passes c.before).input
+overflow_sub-inputs c = (passes c.before.before.before c.if-not-fits.false).input
 
 pub overflow_sub-outputs : goal.overflow_sub-outputs
-overflow_sub-outputs c = (passes c.before.before).output
+overflow_sub-outputs c = (passes c.before.before.before.before c.if-not-fits.false).output
 
 pub overflow_sub-numbers : goal.overflow_sub-numbers
-overflow_sub-numbers c = (passes c.before.before).place
+overflow_sub-numbers c = (passes c.before.before.before.before c.if-not-fits.false).place
 
 pub loop-at-preserved : goal.loop-at-preserved
-loop-at-preserved c = let e = c.before.before in (room e.before, both e.before true (fits e))
+loop-at-preserved c = let t = c.before.before.before.before in (room t, both t true c.if-not-fits.false)
 
 pub returns : goal.returns
 returns c =
