@@ -7,5 +7,3 @@ pub mod Standing
 pub mod Ending
 pub mod Decided
 pub mod Answered
-
-

@@ -34,16 +34,16 @@ module _ (c : (lts.After-open tie.the-claims reads.Pre reads.Post)) where
   asked = opening-is bytes c.word.ensures
       c.word-2.ensures c.word-3.ensures
 
-  number_is : c.«open».result.refusal ≡ refusal (header_limits bytes)
+  number_is : c.open-a.result.refusal ≡ refusal (header_limits bytes)
   number_is =
       header-whole bytes c.if-score-lt8.false
-      (c.«open».ensures.number ∙ ap (λ (o : Opening). refusal (open_limits o)) asked)
+      (c.open-a.ensures.number ∙ ap (λ (o : Opening). refusal (open_limits o)) asked)
 
   abbrev voice : Voice
-  voice = c.«open».result.voice
+  voice = c.open-a.result.voice
 
   voice-is : state_of voice.head voice.line ≡ fresh (opening bytes)
-  voice-is = c.«open».ensures.state ∙ ap (λ (o : Opening). fresh o) asked
+  voice-is = c.open-a.ensures.state ∙ ap (λ (o : Opening). fresh o) asked
 
 pub returns-then-score-lt8 : goal.returns-then-score-lt8
 returns-then-score-lt8 c =
@@ -52,27 +52,24 @@ returns-then-score-lt8 c =
     (λ z. omega arith)
 
 pub overflow_cast-score : goal.overflow_cast-score
-overflow_cast-score c = omega (arith, c.shared_slice_known-2-1.given 0)
+overflow_cast-score c = omega (arith, c.type_inv.score 0)
 
 pub overflow_cast-score-2 : goal.overflow_cast-score-2
-overflow_cast-score-2 c = omega (arith, c.shared_slice_known-3-1.given 1)
+overflow_cast-score-2 c = omega (arith, c.type_inv.score 1)
 
 pub returns-then-a-ne0 : goal.returns-then-a-ne0
 returns-then-a-ne0 c =
-    let a = c.before.before in
-    let o = a.args.output.now in
-    run-refused (bytes a) o (number_is a) c.if-a-ne0.true
+    let a = c.before.before.before in
+    run-refused (bytes a) c.args.output.now (number_is a) c.if-a-ne0.true
 
 pub returns : goal.returns
 returns c =
-    let p = c.before in
-    let e = p.before.before.before.before.before in
-    let a = e.before.before in
+    let a = c.before.before.before.before.before.before.before.before.before.before in
     let s = bytes a in
-    let out = a.args.output.now in
-    let r = p.play.result in
-    let k = p.play.new.1.1.1.0 in
-    run-played s out r k (sym (number_is a) ∙ e.if-a-ne0.false)
+    let out = c.args.output.now in
+    let r = c.play.result in
+    let k = c.play.new.output in
+    run-played s out r k (sym (number_is a) ∙ c.if-a-ne0.false)
     (subst (λ (t : List ℕ). PlaysAll t (fresh (opening s)) out r k) (part_to_end s 8)
     (subst (λ (v : State). PlaysAll (take (length s - 8) (drop 8 s)) v out r k)
-    (voice-is a) p.play.ensures))
+    (voice-is a) c.play.ensures))

@@ -20,20 +20,30 @@ use Rattle.score.proofs.play.Reads as reads
 use Rattle.score.proofs.play.Tie as tie
 
 -- ---- the places of the loop that the proofs speak of
-abbrev pub Numbered : Type 1
-Numbered = lts.After-refused tie.the-claims reads.Pre reads.Post goal.the-invariant-loop-t goal.the-decreases-loop-t
+abbrev pub Numbered : Type 0
+Numbered =
+    lts.After-refused tie.the-claims reads.Pre reads.Post goal.the-invariant-loop-t goal.the-decreases-loop-t
+    tie.handed_clauses
 
-abbrev pub Waits-read : Type 1
-Waits-read = lts.After-as_length tie.the-claims reads.Pre reads.Post goal.the-invariant-loop-t goal.the-decreases-loop-t
+abbrev pub Waits-read : Type 0
+Waits-read =
+    lts.After-as_length tie.the-claims reads.Pre reads.Post goal.the-invariant-loop-t goal.the-decreases-loop-t
+    tie.handed_clauses
 
-abbrev pub Begun : Type 1
-Begun = lts.After-begin tie.the-claims reads.Pre reads.Post goal.the-invariant-loop-t goal.the-decreases-loop-t
+abbrev pub Begun : Type 0
+Begun =
+    lts.After-begin tie.the-claims reads.Pre reads.Post goal.the-invariant-loop-t goal.the-decreases-loop-t
+    tie.handed_clauses
 
-abbrev pub Kept : Type 1
-Kept = lts.After-after tie.the-claims reads.Pre reads.Post goal.the-invariant-loop-t goal.the-decreases-loop-t
+abbrev pub Kept : Type 0
+Kept =
+    lts.After-after tie.the-claims reads.Pre reads.Post goal.the-invariant-loop-t goal.the-decreases-loop-t
+    tie.handed_clauses
 
-abbrev pub Rendered : Type 1
-Rendered = lts.Joined2 tie.the-claims reads.Pre reads.Post goal.the-invariant-loop-t goal.the-decreases-loop-t
+abbrev pub Rendered : Type 0
+Rendered =
+    lts.Joined2 tie.the-claims reads.Pre reads.Post goal.the-invariant-loop-t goal.the-decreases-loop-t
+    tie.handed_clauses
 
 -- ---- before a record, once its number is known
 module _ (c : Numbered) where

@@ -15,6 +15,7 @@ use Rattle.voice.specs.Valid.{Valid}
 use Rattle.loops.specs.Rendered.{Unfed, Went}
 use Rattle.render.proofs.Unfed.{Stretched, stretched}
 use Rattle.score.proofs.Turns.{part_length}
+use Rattle.score.proofs.play.Goals.{then-n-wait, else-n-wait}
 use Rattle.score.proofs.play.Answers.Loop.{Numbered, Waits-read, Begun, Kept, Rendered, numbered, head, line, voice, done, output, room}
 
 -- ---- the first stretch
@@ -95,6 +96,6 @@ module _ (c : Rendered) where
       let q = stretch c.before in
       elim c.if-n-wait.branch [
         | then-n-wait w ↦ waits (w.rest-head.ensures (part stretched_to) (head at) (line at) q.again) w.line-is w.head-is
-        (w.output-is ∙ q.put w.rest-head.new.buffer)
+            (w.output-is ∙ q.put w.rest-head.new.buffer)
         | else-n-wait w ↦ waits (q.all (omega (arith, w.if-n-wait.false))) w.line-is w.head-is w.output-is
       ]
