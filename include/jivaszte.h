@@ -1,4 +1,4 @@
-/* Jivaszte for C: the routines of libjivaszte.a, which `rt staticlib jivaszte` proves and writes, and `make install` puts
+/* Jivaszte for C: the routines of libjivaszte.a, which `tools/build library` proves and writes, and `make install` puts
    where `cc host.c $(pkg-config --cflags --libs jivaszte)` finds it.
 
    Every routine is safe for every number and every byte, but that the calls on a jivaszte_voice and a jivaszte_junction

@@ -20,7 +20,7 @@ fn main() {
     println!("cargo:rerun-if-changed={}", archive.display());
     assert!(
         archive.exists(),
-        "{} is not there: `rt staticlib jivaszte` or `make install` makes it, and JIVASZTE_LIB names its folder",
+        "{} is not there: `tools/build library` or `make install` makes it, and JIVASZTE_LIB names its folder",
         archive.display()
     );
     println!("cargo:rustc-link-search=native={}", folder.display());
