@@ -100,7 +100,7 @@ overflow_add-from c =
 pub read-x-requires : goal.read-x-requires
 read-x-requires c =
     let l = c.before.before in
-    omega (arith, c.read-arg-in-loop-i-1.given, place l)
+    omega (arith, place l)
 
 -- once its sample is read
 module _ (c : lts.After-read tie.the-claims reads.Pre reads.Post goal.the-invariant-loop-i goal.the-decreases-loop-i tie.handed_clauses) where
@@ -108,7 +108,7 @@ module _ (c : lts.After-read tie.the-claims reads.Pre reads.Post goal.the-invari
   within = c.before.before.before
 
   long : length c.loop-i.line ≡ 2112
-  long = c.read-arg-in-loop-i-1.given
+  long = omega arith
 
   small : nat_abs c.read-x.result.n ≤ M
   small =
@@ -185,7 +185,7 @@ pub write-requires : goal.write-requires
 write-requires c =
     let m = c.before in
     let r = over m in
-    (omega (arith, c.write-arg-1.given.1, here r, inside r), newest-small m)
+    (omega (arith, here r, inside r), newest-small m)
 
 pub write-requires-in-loop-i : goal.write-requires-in-loop-i
 write-requires-in-loop-i c = (c.loop-i-test.true, y-small (heard c.before.before.before))

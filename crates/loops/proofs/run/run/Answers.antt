@@ -147,14 +147,14 @@ overflow_add-from c =
 pub read-x-requires : goal.read-x-requires
 read-x-requires c =
     let l = c.before.before in
-    omega (arith, c.read-arg-in-loop-i-1.given, place l)
+    omega (arith, place l)
 
 pub overflow_add-far : goal.overflow_add-far
 overflow_add-far c = omega (arith, far-inside c.before.before.before.before.before)
 
 pub read-g-requires : goal.read-g-requires
 read-g-requires c =
-    omega (arith, c.read-arg-in-loop-i-3-1.given, far-inside c.before.before.before.before.before)
+    omega (arith, far-inside c.before.before.before.before.before)
 
 -- once its samples are read
 module _ (c : lts.After-read2 tie.the-claims reads.Pre reads.Post goal.the-invariant-loop-i goal.the-decreases-loop-i tie.handed_clauses) where
@@ -162,7 +162,7 @@ module _ (c : lts.After-read2 tie.the-claims reads.Pre reads.Post goal.the-invar
   within = c.before.before.before.before.before.before
 
   long : length c.loop-i.line ≡ 2112
-  long = c.read-arg-in-loop-i-1.given
+  long = omega arith
 
   small : nat_abs c.read-x.result.n ≤ M
   small =
@@ -259,7 +259,7 @@ write-requires-in-loop-i c =
     let a = c.args in
     let x = input_of a.fed l.buffer l.i in
     let u = (x +ℤ pos 0) +ℤ Q (pos a.h.loss *ℤ (y e +ℤ l.last.n)) in (
-      omega (arith, c.write-arg-in-loop-i-1.given.0.1, here r, inside r),
+      omega (arith, here r, inside r),
       subst (λ (z : ℤ). nat_abs z ≤ M) (sym c.newest-s.ensures) (clip_abs u),
     )
 
