@@ -11,7 +11,7 @@ use borrow.Author.Tests.{eqb-false}
 use Rattle.line.specs.Ring.{ring}
 use Rattle.rule.specs.Voice.{Voice}
 use Rattle.rule.specs.Calls.{Call, Opening, block, instant, number, count}
-use Rattle.rule.specs.State.{State, back, fresh, call, put, from, puts, numbers, counts}
+use Rattle.rule.specs.State.{State, back, put, from, puts, numbers, counts}
 use Rattle.rule.specs.Click.{ClickFigure}
 use Rattle.rule.specs.OwnFigure.{OwnClickFigure}
 use Rattle.rule.proofs.Refusals.{refuses}
@@ -21,7 +21,7 @@ use Rattle.voice.specs.declared.Head.{Head}
 use Rattle.voice.specs.declared.Answer.{Answer}
 use Rattle.voice.specs.Struct.{voice_of, state_of}
 use Rattle.voice.specs.Valid.{Valid}
-use Rattle.voice.specs.Called.{Called, On, lent}
+use Rattle.voice.specs.Called.{On, lent}
 use Rattle.voice.proofs.Called.{on}
 use Rattle.open.specs.declared.Opened.{Opened}
 use Rattle.open.specs.Opened.{Opens}

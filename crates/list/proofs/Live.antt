@@ -1,7 +1,7 @@
 -- L9 of the routines: what the two lists put out is what `perform` leaves of them, and what a caller hears.
 -- Assumes nothing.
 use mathlib.Core.Path.{◌≡◌, refl, sym, ap, ap₂, ◌∙◌}
-use mathlib.Core.List.{List, [], ◌∷◌, ◌++◌, append_assoc}
+use mathlib.Core.List.{List, ◌∷◌, ◌++◌, append_assoc}
 use Prim.Native.Nat.{ℕ, suc, ◌+◌, ◌<◌}
 use native.Mathlib.Omega.{arith}
 use lib.IntN.{ℤ}
@@ -9,10 +9,9 @@ use lib.ListN.{length, take, drop, length-append}
 use lib.Seq.{take-append-le, drop-append-le}
 use Rattle.refusal.specs.Limits.{refusal}
 use Rattle.samples.specs.Samples.{over}
-use Rattle.rule.specs.Voice.{Tuning}
 use Rattle.rule.specs.Calls.{Call, announce, instant, Opening, number, open_limits}
 use Rattle.rule.specs.State.{State, fresh, puts, numbers}
-use Rattle.rule.specs.Live.{without, announcing, living, Ahead, Live}
+use Rattle.rule.specs.Live.{without, announcing, living}
 use Rattle.rule.proofs.Numbers.{each-length}
 use Rattle.rule.proofs.Live.{lives}
 use Rattle.list.specs.declared.Performed.{Performed}

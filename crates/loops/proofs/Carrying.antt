@@ -22,7 +22,7 @@ use Rattle.voice.specs.Struct.{kind_of, with_of, settled_of}
 use Rattle.voice.specs.Valid.{Tuned, Valid}
 use Rattle.step.specs.declared.sound.Sounded.{Sounded}
 use Rattle.step.specs.declared.feedback.Circulated.{Circulated}
-use Rattle.step.specs.Sample.{Moved, PluckSounds, Settles, Circulates, Steps}
+use Rattle.step.specs.Sample.{Moved, PluckSounds, Circulates, Steps}
 use Rattle.step.proofs.Silent.{sounds-none}
 use Rattle.step.proofs.Settles.{settles_idle, settles}
 use Rattle.step.proofs.Steps.{heard-fit, steps}

@@ -21,7 +21,6 @@ use Rattle.voice.specs.declared.Filter.{Filter}
 use Rattle.voice.specs.Struct.{filter_of}
 use Rattle.voice.specs.Valid.{Tuned}
 use Rattle.voice.proofs.Within.{read-within}
-use Rattle.step.specs.declared.filter.Heard.{Heard}
 use Rattle.step.specs.Sample.{Moved, Hears, Circulates}
 use Rattle.step.proofs.Filters.{taps_of, state_to, tuned-hears, tuned-moved}
 

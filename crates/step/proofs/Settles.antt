@@ -13,7 +13,7 @@ use Rattle.voice.specs.declared.Filter.{Filter}
 use Rattle.voice.specs.declared.Kind.{Kind}
 use Rattle.voice.specs.declared.Waiting.TheVariants.{Idle, Prepared}
 use Rattle.voice.specs.declared.Head.{Head}
-use Rattle.voice.specs.Struct.{kind_of, prepared_of, voice_of, with_of, settled_of}
+use Rattle.voice.specs.Struct.{kind_of, with_of, settled_of}
 use Rattle.voice.specs.Valid.{Fit}
 use Rattle.voice.proofs.Called.{fit_as}
 use Rattle.step.specs.Sample.{Moved, Settles}

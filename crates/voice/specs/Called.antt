@@ -1,7 +1,6 @@
 -- What each call on a voice, refused or not, and each part of one returns and leaves, in the rule's terms.
 -- Definitions alone. Assumes nothing.
 use Rattle.std.specs.Prelude.{◌≡◌, cond, List, ℕ, eqb, ℤ}
-use Rattle.refusal.specs.Limits.{refusal}
 use Rattle.allpass.specs.Allpass.{rest}
 use Rattle.rule.specs.Calls.{Call, number}
 use Rattle.rule.specs.State.{call, put}

@@ -1,6 +1,6 @@
 -- The invariant of a voice, which Open gives and each call hands on, refused or not: all that a call requires.
 -- Definitions alone. Assumes nothing.
-use Rattle.std.specs.Prelude.{◌≡◌, List, ℕ, ◌*◌, ◌≤◌, ◌<◌, ◌^◌, ℤ, nat_abs, length}
+use Rattle.std.specs.Prelude.{◌≡◌, List, ℕ, ◌*◌, ◌≤◌, ◌<◌, ◌^◌, ℤ, nat_abs}
 use Rattle.integer.specs.Rounding.{M}
 use Rattle.refusal.specs.Orders.{longest, most_loss, most_advance, Takes}
 use Rattle.thiran.specs.Coefficients.{coefficients}

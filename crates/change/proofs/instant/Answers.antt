@@ -1,7 +1,6 @@
 -- `change::instant` meets its contract: a resting eliminator, run over the line, is put in force.
 -- Assumes nothing.
 use mathlib.Core.Path.{ap, ◌∙◌}
-use borrow.Author.Rules.{rules}
 use lib.ListN.{length}
 use Rattle.line.specs.Ring.{ring}
 use Rattle.rule.specs.Voice.{tuning}

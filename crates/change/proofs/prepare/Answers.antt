@@ -1,6 +1,5 @@
 -- `change::prepare` meets its contract: what it starts with is in force at once or waiting.
 -- Assumes nothing.
-use borrow.Author.Rules.{rules}
 use Rattle.voice.specs.Struct.{settled_of}
 use Rattle.change.proofs.Chosen.{chosen_none, chosen-one}
 use Rattle.change.proofs.prepare.Goals as goal

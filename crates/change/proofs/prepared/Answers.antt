@@ -4,14 +4,12 @@ use mathlib.Core.Path.{◌≡◌, refl, ap, ◌∙◌}
 use Prim.Native.Nat.{◌+◌, ◌-◌, ◌≤◌}
 use native.Mathlib.Omega.{arith}
 use lib.IntN.{ℤ}
-use Rattle.allpass.specs.Allpass.{next, run}
+use Rattle.allpass.specs.Allpass.{next}
 use Rattle.line.specs.Ring.{ring}
 use Rattle.rule.specs.Voice.{A}
-use Rattle.rule.specs.Calls.{window}
 use Rattle.rule.specs.State.{back}
 use Rattle.voice.specs.declared.Tuning.{Tuning}
 use Rattle.voice.specs.Struct.{tuning_of, filter_of}
-use Rattle.voice.specs.Valid.{Tuned}
 use Rattle.rule.proofs.Read.{length-window}
 use Rattle.voice.proofs.Within.{read-within}
 use Rattle.change.proofs.Windows.{window-run}

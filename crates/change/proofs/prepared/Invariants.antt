@@ -1,20 +1,14 @@
 -- `change::prepared` meets its contract. The loop's invariant: what is left of the window takes p
 -- to where the whole of it takes f, and as many were counted as are not left. The measure is what is left.
-use mathlib.Core.Path.{◌≡◌, refl, ap, ◌∙◌}
-use Prim.Native.Nat.{◌+◌, ◌-◌, ◌≤◌}
-use native.Mathlib.Omega.{arith}
-use lib.IntN.{ℤ}
-use Rattle.allpass.specs.Allpass.{next, run}
+use mathlib.Core.Path.{◌≡◌}
+use Prim.Native.Nat.{◌+◌}
+use Rattle.allpass.specs.Allpass.{run}
 use Rattle.line.specs.Ring.{ring}
 use Rattle.rule.specs.Voice.{A}
 use Rattle.rule.specs.Calls.{window}
 use Rattle.rule.specs.State.{back}
-use Rattle.voice.specs.declared.Tuning.{Tuning}
 use Rattle.voice.specs.Struct.{tuning_of, filter_of}
 use Rattle.voice.specs.Valid.{Tuned}
-use Rattle.rule.proofs.Read.{length-window}
-use Rattle.voice.proofs.Within.{read-within}
-use Rattle.change.proofs.Windows.{window-run}
 use Rattle.change.proofs.prepared.Given as goal
 
 abbrev pub invariant-loop-left : goal.invariant-loop-left

@@ -1,6 +1,5 @@
 -- `change::ready` meets its contract: refused, or its eliminator is at rest, whatever the kind.
 -- Assumes nothing.
-use borrow.Author.Rules.{rules}
 use Rattle.rule.specs.Voice.{tuning}
 use Rattle.rule.specs.Calls.{prepare, number}
 use Rattle.voice.specs.Struct.{kind_of, settled_of}

@@ -2,7 +2,6 @@
 -- Assumes nothing.
 use mathlib.Core.Path.{◌≡◌, sym, ◌∙◌}
 use mathlib.Core.List.{[], ◌∷◌}
-use borrow.Author.Rules.{rules}
 use Rattle.refusal.specs.Limits.{refusal}
 use Rattle.refusal.specs.Orders.{order, delay}
 use Rattle.rule.specs.Voice.{tuning}

@@ -1,7 +1,6 @@
 -- `loops::input` meets its contract: by whether something comes in.
 -- Assumes nothing.
 use mathlib.Core.Path.{sym, ◌∙◌}
-use borrow.Author.Rules.{rules}
 use Rattle.loops.proofs.Fed.{some_in}
 use Rattle.loops.proofs.input.Goals as goal
 

@@ -1,6 +1,5 @@
 -- `loops::while_idle` meets its contract: its loop's, where nothing waits.
 -- Assumes nothing.
-use borrow.Author.Rules.{rules}
 use Rattle.loops.proofs.while_idle.Goals as goal
 
 pub by_order-requires : goal.by_order-requires

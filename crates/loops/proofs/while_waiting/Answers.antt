@@ -2,7 +2,6 @@
 -- Assumes nothing.
 use mathlib.Core.Path.{refl, sym, subst}
 use native.Mathlib.Omega.{arith}
-use borrow.Author.Rules.{rules}
 use lib.ListN.{length}
 use Rattle.voice.specs.declared.Waiting.{Waiting}
 use Rattle.voice.specs.Valid.{Preparing, Waiting-valid}

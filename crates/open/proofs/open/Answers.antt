@@ -1,7 +1,6 @@
 -- `open::open` meets its contract: a resting voice, the one asked for or the refused one.
 -- Assumes nothing.
 use mathlib.Core.Path.{◌≡◌, refl, sym, ◌∙◌}
-use borrow.Author.Rules.{rules}
 use Rattle.refusal.specs.Limits.{refusal}
 use Rattle.rule.specs.Calls.{Opening, open_limits}
 use Rattle.refusal.proofs.Returned.{passed}

@@ -1,8 +1,6 @@
 -- `open::refused` meets its contract: the tests of the tuning, and then those of the loss and the advance.
 -- Assumes nothing.
-use mathlib.Core.List.{List, [], ◌∷◌, ◌++◌}
-use borrow.Author.Rules.{rules}
-use Rattle.refusal.specs.Limits.{Limit}
+use mathlib.Core.List.{[], ◌∷◌, ◌++◌}
 use Rattle.refusal.specs.Orders.{order, delay}
 use Rattle.rule.specs.Tests.{long, lossy}
 use Rattle.open.proofs.refused.Goals as goal

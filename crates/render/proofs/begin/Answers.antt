@@ -1,6 +1,5 @@
 -- `render::begin` meets its contract: that of a loop with nothing coming in.
 -- Assumes nothing.
-use borrow.Author.Rules.{rules}
 use Rattle.render.proofs.Joined.{zeros-quiet}
 use Rattle.render.proofs.begin.Goals as goal
 

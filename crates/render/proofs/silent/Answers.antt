@@ -1,6 +1,5 @@
 -- `render::silent` meets its contract: what comes in is 0 at each sample.
 -- Assumes nothing.
-use borrow.Author.Rules.{rules}
 use Rattle.loops.proofs.Fed.{cleared-zeros}
 use Rattle.render.proofs.Joined.{zeros-quiet}
 use Rattle.render.proofs.silent.Goals as goal

@@ -1,15 +1,8 @@
 -- `render::sounding` meets its contract: the invariant is `Rendered`, with a voice that stays valid.
 -- Assumes nothing.
-use mathlib.Core.Path.{◌≡◌, refl, ap, ◌∙◌}
-use Prim.Native.Nat.{◌+◌, ◌-◌, ◌<◌}
-use native.Mathlib.Omega.{arith}
-use borrow.Author.Rules.{rules}
-use lib.IntN.{pos}
-use lib.ListN.{length, get_or}
-use Rattle.loops.specs.Fed.{fed_of}
+use Prim.Native.Nat.{◌-◌}
+use lib.ListN.{length}
 use Rattle.loops.specs.Rendered.{Went}
-use Rattle.loops.proofs.Fed.{length-fed, as_long, input-fed, set-fed}
-use Rattle.loops.proofs.Passes.{started, reads, more}
 use Rattle.render.proofs.sounding.Given as goal
 
 abbrev pub invariant-loop-i : goal.invariant-loop-i

@@ -3,7 +3,6 @@
 use mathlib.Core.Path.{sym, subst}
 use Prim.Native.Nat.{ℕ}
 use native.Mathlib.Omega.{arith}
-use borrow.Author.Rules.{rules}
 use Rattle.voice.specs.declared.Head.{Head}
 use Rattle.loops.specs.Rendered.{Went}
 use Rattle.loops.proofs.Fed.{as_long}

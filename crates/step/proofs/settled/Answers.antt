@@ -1,7 +1,6 @@
 -- `step::settled` meets its contract: by what waits.
 -- Assumes nothing.
 use mathlib.Core.Path.{◌≡◌, subst, ap, ◌∙◌}
-use borrow.Author.Rules.{rules}
 use lib.IntN.{ℤ}
 use Rattle.voice.specs.declared.Waiting.{Waiting}
 use Rattle.voice.specs.declared.Head.{Head}

@@ -2,7 +2,6 @@
 -- Assumes nothing.
 use Prim.Native.Nat.{◌-◌}
 use native.Mathlib.Omega.{arith}
-use borrow.Author.Rules.{rules}
 use Rattle.rule.specs.State.{back}
 use Rattle.line.specs.Ring.{ring}
 use Rattle.voice.proofs.Within.{read-within}

@@ -1,7 +1,6 @@
 -- `voice::resting` meets its contract: a state of zeros is the filter's rest.
 -- Assumes nothing.
 use mathlib.Core.Path.{refl, sym, ap, ◌∙◌}
-use borrow.Author.Rules.{rules}
 use Rattle.allpass.specs.Stored.{held}
 use Rattle.allpass.specs.declared.State.{State}
 use Rattle.allpass.proofs.Bounds.{rest-within}

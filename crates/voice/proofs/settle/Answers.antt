@@ -1,7 +1,6 @@
 -- `voice::settle` meets its contract: by whether the change commits itself.
 -- Assumes nothing.
 use mathlib.Core.Path.{sym, ◌∙◌}
-use borrow.Author.Rules.{rules}
 use Rattle.voice.proofs.settle.Goals as goal
 
 pub returns-then-commits : goal.returns-then-commits

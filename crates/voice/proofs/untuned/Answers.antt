@@ -3,7 +3,6 @@
 use mathlib.Core.Path.{◌≡◌, sym, ◌∙◌}
 use mathlib.Core.Bool.{false}
 use mathlib.Core.List.{List, [], ◌∷◌}
-use borrow.Author.Rules.{rules}
 use Rattle.refusal.specs.Limits.{Limit, outside}
 use Rattle.refusal.specs.Orders.{order, delay, orders}
 use Rattle.refusal.proofs.Returned.{here, past, is-kept}

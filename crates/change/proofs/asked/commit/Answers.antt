@@ -1,6 +1,5 @@
 -- `change::asked::commit` meets its contract: refused by 21 or 20, or what was asked for is in force.
 -- Assumes nothing.
-use borrow.Author.Rules.{rules}
 use Rattle.change.specs.Committed.{committed_of}
 use Rattle.change.proofs.Chosen.{chosen_none, chosen-one}
 use Rattle.change.proofs.asked.commit.Goals as goal

@@ -3,7 +3,6 @@
 use mathlib.Core.List.{[], ◌∷◌}
 use Rattle.rule.specs.Tests.{asking}
 use Rattle.voice.specs.Struct.{waiting_of}
-use borrow.Author.Rules.{rules}
 use Rattle.change.proofs.asked.early.Goals as goal
 
 pub returns : goal.returns

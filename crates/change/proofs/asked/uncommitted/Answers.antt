@@ -1,6 +1,5 @@
 -- `change::asked::uncommitted` meets its contract: the tests of a commit, in their order.
 -- Assumes nothing.
-use borrow.Author.Rules.{rules}
 use Rattle.rule.specs.Calls.{number}
 use Rattle.change.proofs.Ending.{commits-or-not}
 use Rattle.change.proofs.asked.uncommitted.Goals as goal

@@ -3,7 +3,6 @@
 use Rattle.rule.specs.Calls.{withdraw, number}
 use Rattle.voice.proofs.Called.{called-refused}
 use Rattle.change.proofs.Ending.{withdraws}
-use borrow.Author.Rules.{rules}
 use Rattle.change.proofs.asked.withdraw.Goals as goal
 
 pub returns-then-code-ne0 : goal.returns-then-code-ne0

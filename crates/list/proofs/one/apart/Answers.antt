@@ -1,6 +1,5 @@
 -- `list::one::apart` meets its contract: each kind's call is the one that is made.
 -- Assumes nothing.
-use borrow.Author.Rules.{rules}
 use Rattle.list.proofs.Calling.{known}
 use Rattle.list.proofs.one.apart.Goals as goal
 

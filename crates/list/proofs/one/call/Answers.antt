@@ -1,8 +1,5 @@
 -- `list::one::call` meets its contract: an instant change has its count, and no other call has one.
 -- Assumes nothing.
-use mathlib.Core.Path.{sym, subst}
-use Prim.Native.Nat.{ℕ}
-use borrow.Author.Rules.{rules}
 use Rattle.line.specs.Ring.{ring}
 use Rattle.rule.specs.State.{back}
 use Rattle.voice.specs.Struct.{voice_of}

@@ -1,6 +1,5 @@
 -- `list::one::ended` meets its contract: a commit or a withdrawal.
 -- Assumes nothing.
-use borrow.Author.Rules.{rules}
 use borrow.Author.Tests.{eq-eqb, ne_eqb}
 use Rattle.list.proofs.one.ended.Goals as goal
 

@@ -3,7 +3,6 @@
 use mathlib.Core.Path.{subst}
 use Prim.Native.Nat.{◌<◌}
 use native.Mathlib.Omega.{arith}
-use borrow.Author.Rules.{rules}
 use Rattle.rule.specs.Calls.{Call}
 use Rattle.voice.specs.Called.{Called}
 use Rattle.list.proofs.Calling.{known, ending}

@@ -5,7 +5,6 @@ use mathlib.Core.Bool.{true, false, cond, ◌||◌}
 use mathlib.Core.List.{List}
 use Prim.Native.Nat.{ℕ, ◌+◌, ◌-◌, ◌≤◌, ◌<◌}
 use native.Mathlib.Omega.{arith}
-use borrow.Author.Rules.{rules}
 use borrow.Author.Rules.{part_to_end}
 use borrow.Rule.Slice.PartMut.{put_mid}
 use lib.Dec.{eqb}
@@ -33,7 +32,7 @@ use Rattle.list.proofs.Form.{Fits}
 use Rattle.list.proofs.Made.{Made, made_as, made-on, made-still, made-next, starting, starting_some}
 use Rattle.list.proofs.Running.{begun, room, out-long, nums_long, all-out, all-written, all-numbers}
 use Rattle.list.proofs.Silence.{made-silent}
-use Rattle.list.proofs.Turn.{at_most, fitting}
+use Rattle.list.proofs.Turn.{fitting}
 use Rattle.list.proofs.run.run.Goals.{then-is_silent+then-n-w, then-is_silent+else-n-w}
 use Rattle.list.proofs.run.run.Goals.{else-is_silent+then-prepares+then-code-eq0}
 use Rattle.list.proofs.run.run.Goals.{else-is_silent+then-prepares+else-code-eq0}

@@ -1,15 +1,9 @@
 -- `list::words::formed` meets its contract: the words that are left are in form just where all are.
 -- Assumes nothing.
-use Prim.Native.Nat.{ℕ, ◌≤◌, ◌+◌, ◌-◌}
-use mathlib.Core.List.{List}
-use mathlib.Core.Path.{◌≡◌, refl, sym, ap, ◌∙◌}
-use mathlib.Core.Bool.{Bool, true, false, ◌&&◌}
-use native.Mathlib.Omega.{arith}
-use borrow.Author.Rules.{rules}
+use Prim.Native.Nat.{◌≤◌, ◌-◌}
+use mathlib.Core.Path.{◌≡◌}
 use lib.ListN.{length, drop}
-use Rattle.list.specs.declared.words.Item.{Item}
 use Rattle.list.specs.Words.{formed}
-use Rattle.list.proofs.Form.{Fits, fits_are, formed-four, formed-end}
 use Rattle.list.proofs.words.formed.Given as goal
 
 abbrev pub invariant-loop-at : goal.invariant-loop-at

@@ -3,7 +3,6 @@
 use mathlib.Core.Path.{◌≡◌, sym}
 use mathlib.Core.Bool.{Bool}
 use Prim.Native.Nat.{ℕ}
-use borrow.Author.Rules.{rules}
 use lib.ListN.{length}
 use Rattle.loops.proofs.Leading.{Asks, none_leads, third}
 use Rattle.loops.proofs.orders.by_order.Goals as goal

@@ -3,7 +3,6 @@
 use mathlib.Core.Path.{◌≡◌, sym}
 use mathlib.Core.Bool.{Bool}
 use Prim.Native.Nat.{ℕ}
-use borrow.Author.Rules.{rules}
 use lib.ListN.{length}
 use Rattle.loops.proofs.Leading.{Asks, leads_by, third}
 use Rattle.loops.proofs.orders.by_orders.Goals as goal

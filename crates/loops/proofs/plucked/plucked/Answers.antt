@@ -3,13 +3,11 @@
 use mathlib.Core.Path.{◌≡◌, refl, sym, ap, subst, ◌∙◌}
 use Prim.Native.Nat.{ℕ, ◌+◌, ◌-◌, ◌%◌, ◌≤◌, ◌<◌}
 use native.Mathlib.Omega.{arith}
-use borrow.Author.Rules.{rules}
 use lib.IntN.{ℤ, pos, nat_abs, ◌+ℤ◌, ◌*ℤ◌}
 use lib.ListN.{length}
 use Rattle.integer.specs.Rounding.{M, clip}
 use Rattle.integer.specs.Cut.{Q}
 use Rattle.integer.proofs.Rounding.{clip_abs, clip-kept}
-use Rattle.allpass.specs.Products.{products_of}
 use Rattle.voice.specs.declared.Filter.{Filter}
 use Rattle.voice.specs.Valid.{Tuned, Valid}
 use Rattle.step.proofs.Filters.{tuned-fed}
@@ -18,7 +16,7 @@ use Rattle.loops.specs.Fed.{fed_of, input_of}
 use Rattle.loops.specs.Rendered.{Went}
 use Rattle.loops.proofs.Fed.{length-fed, as_long, input-fed, set-fed}
 use Rattle.loops.proofs.Passes.{started, reads, more}
-use Rattle.loops.proofs.Carrying.{anew_self, keeps, kept_anew, carried_self, sung_steps}
+use Rattle.loops.proofs.Carrying.{keeps, kept_anew, carried_self, sung_steps}
 use Rattle.loops.proofs.Taking.{from_on, taken-small, taken_circulates}
 use Rattle.loops.proofs.plucked.plucked.Goals as goal
 use Rattle.loops.proofs.plucked.plucked.Lts as lts

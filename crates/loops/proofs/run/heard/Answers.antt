@@ -1,8 +1,5 @@
 -- `loops::run::heard` meets its contract: what is clipped is a sample, and is clipped no further.
 -- Assumes nothing.
-use mathlib.Core.Path.{◌∙◌}
-use borrow.Author.Rules.{rules}
-use lib.IntN.{ℤ}
 use Rattle.integer.specs.Rounding.{clip}
 use Rattle.integer.proofs.Rounding.{clip_abs, clip-kept}
 use Rattle.loops.proofs.run.heard.Goals as goal

@@ -1,6 +1,5 @@
 -- `loops::run::led` meets its contract: nothing is said of it where no eliminator runs.
 -- Assumes nothing.
-use mathlib.Core.Path.{◌≡◌}
 use native.Mathlib.Omega.{arith}
 use Rattle.loops.proofs.run.led.Goals as goal
 

@@ -3,7 +3,6 @@
 use mathlib.Core.Path.{◌≡◌, refl, sym, ap, subst, ◌∙◌}
 use Prim.Native.Nat.{ℕ, ◌+◌, ◌-◌, ◌%◌, ◌≤◌, ◌<◌}
 use native.Mathlib.Omega.{arith}
-use borrow.Author.Rules.{rules}
 use borrow.Author.Tests.{leb-true, not-false}
 use lib.Dec.{leb}
 use lib.IntN.{ℤ, pos, nat_abs, ◌+ℤ◌, ◌*ℤ◌}
@@ -15,17 +14,14 @@ use Rattle.thiran.specs.Answers.{taps}
 use Rattle.allpass.specs.declared.State.{State}
 use Rattle.allpass.specs.Allpass.{next, out}
 use Rattle.allpass.specs.Stored.{stored, held, Fed}
-use Rattle.allpass.specs.Products.{products_of}
 use Rattle.voice.specs.declared.Filter.{Filter}
-use Rattle.voice.specs.declared.Waiting.{Waiting}
 use Rattle.voice.specs.declared.Head.{Head}
 use Rattle.voice.specs.Struct.{filter_of, state_of}
 use Rattle.voice.specs.Valid.{Valid}
 use Rattle.step.proofs.Filters.{taps_of, tuned-fed}
 use Rattle.loops.specs.declared.Led.{Led}
-use Rattle.loops.specs.Carried.{anew_of, ran_of, after_of}
+use Rattle.loops.specs.Carried.{anew_of, ran_of}
 use Rattle.loops.specs.Fed.{fed_of, input_of}
-use Rattle.loops.specs.Rendered.{Went}
 use Rattle.loops.proofs.Fed.{length-fed, as_long, input-fed, set-fed}
 use Rattle.loops.proofs.Passes.{Passed, started, reads, more}
 use Rattle.loops.proofs.Carrying.{keeps, kept_self}

@@ -2,7 +2,6 @@
 -- Assumes nothing.
 use mathlib.Core.Path.{◌≡◌, refl, sym, ◌∙◌}
 use mathlib.Core.List.{[], ◌∷◌}
-use borrow.Author.Rules.{rules}
 use Rattle.refusal.specs.Limits.{refusal}
 use Rattle.rule.specs.Calls.{loss, number, done}
 use Rattle.rule.specs.Tests.{lossy}

@@ -3,7 +3,6 @@
 use mathlib.Core.Path.{◌≡◌, refl, sym, ◌∙◌}
 use mathlib.Core.List.{List, [], ◌∷◌}
 use native.Mathlib.Omega.{arith}
-use borrow.Author.Rules.{rules}
 use Rattle.refusal.specs.Limits.{Limit, refusal}
 use Rattle.rule.specs.Calls.{Call, pluck, number, done}
 use Rattle.rule.specs.Tests.{strong, lasting}

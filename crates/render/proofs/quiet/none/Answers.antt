@@ -3,7 +3,6 @@
 use mathlib.Core.Path.{◌≡◌, refl, ap, subst, ◌∙◌}
 use Prim.Native.Nat.{ℕ, ◌+◌, ◌%◌, min}
 use native.Mathlib.Omega.{arith}
-use borrow.Author.Rules.{rules}
 use Rattle.voice.specs.declared.Waiting.{Waiting}
 use Rattle.voice.specs.Struct.{settled_of}
 use Rattle.voice.specs.Valid.{Preparing, Waiting-valid}

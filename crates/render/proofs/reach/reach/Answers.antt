@@ -2,7 +2,6 @@
 -- Assumes nothing.
 use mathlib.Core.Path.{ap}
 use native.Mathlib.Omega.{arith}
-use borrow.Author.Rules.{rules}
 use Rattle.rule.proofs.Keeps.{announced-asked}
 use Rattle.voice.specs.Struct.{kind_of}
 use Rattle.render.proofs.reach.reach.Goals as goal

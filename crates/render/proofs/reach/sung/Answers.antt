@@ -1,7 +1,6 @@
 -- `render::reach::sung` meets its contract: by what waits.
 -- Assumes nothing.
 use native.Mathlib.Omega.{arith}
-use borrow.Author.Rules.{rules}
 use Rattle.render.proofs.reach.sung.Goals as goal
 
 pub returns-in-Prepared : goal.returns-in-Prepared

@@ -5,7 +5,6 @@ use mathlib.Core.List.{◌∷◌}
 use Prim.Native.Nat.{◌-◌, ◌≤◌}
 use lib.IntN.{ℤ, nat_abs, ◌+ℤ◌}
 use lib.ListN.{take}
-use borrow.Author.Rules.{rules}
 use Rattle.integer.specs.Rounding.{M, clip}
 use Rattle.integer.proofs.Rounding.{clip_abs}
 use Rattle.line.specs.Ring.{ring}
