@@ -35,7 +35,7 @@ pub const PROMISES: [Promise; 10] = [
         words: "Most pitches are better than that. What the coefficients of a pitch's filter add up to is \
                 mostly far below the half that the figure above reckons with, and a sample is never further \
                 away than this sum makes it: less than the figure above, or as much, for every pitch.",
-        theorem: "own-click",
+        theorem: "own_click",
         proof: "crates/rule/proofs/Click.antt",
         states: "OwnClick",
         statement: "crates/rule/specs/OwnFigure.antt",
@@ -44,7 +44,7 @@ pub const PROMISES: [Promise; 10] = [
         words: "So 16 samples of advance are enough for 2 units at every pitch in order 1, and 42 in order 2; \
                 in order 3 39 are enough for A4 at 44,100 samples a second, and 64 for all but 147 of the 4,096 \
                 fractions of a sample.",
-        theorem: "own-literals",
+        theorem: "own_literals",
         proof: "crates/rule/proofs/OwnLiterals.antt",
         states: "OwnLiterals",
         statement: "crates/rule/specs/OwnLiterals.antt",
@@ -88,7 +88,7 @@ pub const PROMISES: [Promise; 10] = [
     },
     Promise {
         words: "What is recorded reads back as it was, rate and samples.",
-        theorem: "round-trip",
+        theorem: "round_trip",
         proof: "crates/wav/proofs/Theorems.antt",
         states: "RoundTrip",
         statement: "crates/wav/specs/Theorems.antt",

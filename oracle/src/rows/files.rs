@@ -8,10 +8,8 @@ use crate::wav::file;
 const HEAD: &str = "\
 -- Rows from another implementation: whole files, byte by byte, as facts about the definitions. It printed
 -- this text; proofs/FileRows.antt proves them by computation. Assumes nothing.
-use mathlib.Core.Path.{_≡_}
-use mathlib.Core.List.{[], _∷_}
-use lib.IntN.{pos, negsuc}
-use Rattle·riff·specs.specs.Format.{file}
+use Rattle.std.specs.Prelude.{◌≡◌, [], ◌∷◌, pos, negsuc}
+use Rattle.riff.specs.Format.{file}
 
 pub record FileRows : Type 0 where
 ";

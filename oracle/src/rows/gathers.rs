@@ -8,9 +8,8 @@ use crate::gather::gather;
 const HEAD: &str = "\
 -- Rows from another implementation: bytes, a start, and the word that is gathered, as facts about the
 -- definition. It printed this text; proofs/GatherRows.antt proves them by computation. Assumes nothing.
-use mathlib.Core.Path.{_≡_}
-use mathlib.Core.List.{[], _∷_}
-use Rattle·octets·specs.specs.Octets.{gathered}
+use Rattle.std.specs.Prelude.{◌≡◌, [], ◌∷◌}
+use Rattle.octets.specs.Octets.{gathered}
 
 pub record GatherRows : Type 0 where
 ";

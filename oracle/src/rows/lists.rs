@@ -66,7 +66,7 @@ pub const LISTS: &[List] = &[
         calls: "block 2 123456 -7654321; instant 2 1 9159; block 4 0 0 0 0",
     },
     List {
-        name: "at-once",
+        name: "at_once",
         about: &["Na 0: announced changes take effect in the call, several at one step; refusal 4; G 0"],
         open: "2 1 10240 65535 0",
         calls: "block 3 1000000 -2000000 3000000; announce 2 2 6145; announce 2 1 7075; block 3 0 0 0;

@@ -8,10 +8,8 @@ use crate::refusal::number;
 const HEAD: &str = "\
 -- Rows from another implementation of document 01: notes and what comes back for them, as facts about the
 -- definitions. It printed this text; proofs/NoteRows.antt proves them by computation. Assumes nothing.
-use mathlib.Core.Path.{_≡_}
-use mathlib.Core.List.{List, [], _∷_}
-use Prim.Native.Nat.{ℕ}
-use Rattle·pitch.specs.Pitch.{pitch}
+use Rattle.std.specs.Prelude.{◌≡◌, List, [], ◌∷◌, ℕ}
+use Rattle.pitch.specs.Pitch.{pitch}
 
 -- what is asked, and what it gives
 pub record Row : Type 0 where
@@ -25,8 +23,8 @@ pub record Row : Type 0 where
 -- the definitions give this, row for row
 abbrev pub row : Row → Row
 row r =
-    let p = pitch (r .N) (r .fs) (r .m) in
-    record { N = r .N; fs = r .fs; m = r .m; number = p .refusal; L = p .length; d = p .delay }
+    let p = pitch r.N r.fs r.m in
+    record { N = r.N; fs = r.fs; m = r.m; number = p.refusal; L = p.length; d = p.delay }
 
 abbrev pub given : List Row → List Row
 given [] = []

@@ -9,10 +9,8 @@ use crate::refusal::number;
 const HEAD: &str = "\
 -- Rows from another implementation of document 01: bytes and what reading a record gives, as facts about the
 -- definitions. It printed this text; proofs/RecordRows.antt proves them by computation. Assumes nothing.
-use mathlib.Core.Path.{_≡_}
-use mathlib.Core.List.{List, [], _∷_}
-use Prim.Native.Nat.{ℕ}
-use Rattle·record.specs.Record.{fields, rest}
+use Rattle.std.specs.Prelude.{◌≡◌, List, [], ◌∷◌, ℕ}
+use Rattle.record.specs.Record.{fields, rest}
 
 -- bytes, and what it gives: number, bit map, wait, L, d, G, amplitude, count, seed; the part handed back
 pub record Row : Type 0 where
@@ -22,7 +20,7 @@ pub record Row : Type 0 where
 
 -- the definitions give this, row for row
 abbrev pub row : Row → Row
-row r = record { bytes = r .bytes; fields = fields (r .bytes); rest = rest (r .bytes) }
+row r = record { bytes = r.bytes; fields = fields r.bytes; rest = rest r.bytes }
 
 abbrev pub given : List Row → List Row
 given [] = []

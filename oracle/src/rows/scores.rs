@@ -11,12 +11,9 @@ use crate::score::run;
 const HEAD: &str = "\
 -- Rows from another implementation of the papers: scores and what running them gives, as facts about the
 -- definitions. It printed this text; proofs/ScoreRows.antt proves them by computation. Assumes nothing.
-use mathlib.Core.Path.{_≡_}
-use mathlib.Core.List.{List, [], _∷_}
-use Prim.Native.Nat.{ℕ}
-use lib.IntN.{ℤ, pos, negsuc}
-use Rattle·rule.specs.State.{fresh, puts}
-use Rattle·score.specs.Run.{Outcome, opening, run}
+use Rattle.std.specs.Prelude.{◌≡◌, List, [], ◌∷◌, ℕ, ℤ, pos, negsuc}
+use Rattle.rule.specs.State.{fresh, puts}
+use Rattle.score.specs.Run.{Outcome, opening, run}
 
 -- bytes, and the room of the output; number, place, and the samples written
 pub record Row : Type 0 where
@@ -31,14 +28,14 @@ abbrev pub played : List ℕ → ℕ → Outcome → Row
 played s room o = record {
   bytes = s;
   room = room;
-  number = o .number;
-  place = o .place;
-  samples = puts (fresh (opening s)) (o .calls);
+  number = o.number;
+  place = o.place;
+  samples = puts (fresh (opening s)) o.calls;
 }
 
 abbrev pub given : List Row → List Row
 given [] = []
-given (r ∷ rs) = played (r .bytes) (r .room) (run (r .bytes) (r .room)) ∷ given rs
+given (r ∷ rs) = played r.bytes r.room (run r.bytes r.room) ∷ given rs
 
 ";
 

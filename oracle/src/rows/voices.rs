@@ -117,7 +117,7 @@ const PROVED: &[&str] = &[
     "orders-refused",
     "clips",
     "early",
-    "at-once",
+    "at_once",
     "plucks",
     "refused1",
 ];
