@@ -1,7 +1,7 @@
 -- What `merge` returns, in each of its ends.
 use mathlib.Core.Path.{◌≡◌, refl, sym, ap, subst, ◌∙◌}
 use mathlib.Core.Bool.{Bool, true, false}
-use mathlib.Core.List.{List, [], ◌∷◌, ◌++◌}
+use mathlib.Core.List.{List, ◌++◌}
 use Prim.Native.Nat.{ℕ, ◌+◌, ◌≤◌, ◌<◌}
 use native.Mathlib.Omega.{arith}
 use native.Mathlib.Decide.{ℕ_discrete}
@@ -10,7 +10,6 @@ use lib.Seq.{length-take-le}
 use Rattle.octets.specs.Octets.{laid}
 use Rattle.octets.specs.Theorems.{Bytes}
 use Rattle.octets.proofs.Laws.{laid_next, laid-length}
-use Rattle.refusal.specs.Returned.{Returned}
 use Rattle.refusal.proofs.Passed.{first-kept, rest-kept}
 use Rattle.refusal.proofs.Returned.{returned}
 use Rattle.score.specs.Run.{opening, header_limits}

@@ -1,5 +1,5 @@
 -- The end of a score alone: by its header, or by its records.
-use mathlib.Core.Path.{◌≡◌, refl, sym, ap, ◌∙◌}
+use mathlib.Core.Path.{◌≡◌, refl, ◌∙◌}
 use mathlib.Core.List.{List, [], ◌∷◌}
 use Prim.Native.Nat.{ℕ}
 use borrow.Author.Tests.{eq-eqb, ne_eqb}
@@ -10,7 +10,7 @@ use Rattle.refusal.proofs.Tests.{In, accepted}
 use Rattle.rule.specs.Calls.{Opening, open_limits}
 use Rattle.rule.specs.Tests.{long, lossy, early}
 use Rattle.record.specs.Record.{word}
-use Rattle.score.specs.Run.{opening, header_limits, ends}
+use Rattle.score.specs.Run.{opening, header_limits}
 use Rattle.outline.specs.Outline.{opened, run}
 use Rattle.outline.specs.Struct.{EndsAs, PlaysAll}
 use Rattle.outline.specs.declared.RunEnd.{RunEnd}

@@ -10,7 +10,7 @@ use lib.ListN.{length, get_or, length-append}
 use Rattle.octets.specs.Octets as Octets
 use Rattle.octets.specs.Octets.{laid}
 use Rattle.octets.proofs.Laws.{laid_nil, laid_next, laid-length, bytes-length}
-use Rattle.record.specs.Record.{bit, before, bytes}
+use Rattle.record.specs.Record.{before, bytes}
 use Rattle.follow.specs.Follow.{value, stands}
 use Rattle.timeline.specs.Merged.{field_bytes, fields_from, record_bytes}
 

@@ -1,5 +1,5 @@
 -- Two scores that end alone and have one header, at the start of their merge.
-use mathlib.Core.Path.{◌≡◌, refl, sym, ap, subst, ◌∙◌}
+use mathlib.Core.Path.{◌≡◌, refl, sym, ap, subst}
 use mathlib.Core.Bool.{Bool, true, false, cond}
 use mathlib.Core.List.{List, [], ◌∷◌}
 use Prim.Native.Nat.{ℕ, zero, suc, ◌+◌, ◌≤◌, ◌<◌}
@@ -12,14 +12,13 @@ use Rattle.octets.proofs.Laws.{dropped-bytes}
 use Rattle.refusal.specs.Limits.{refusal}
 use Rattle.rule.specs.Calls.{Call, Opening}
 use Rattle.record.specs.Record.{record_number, fields, rest}
-use Rattle.follow.specs.Follow.{value}
 use Rattle.score.specs.Run.{Outcome, ends, joined, opening, header_limits}
 use Rattle.outline.specs.Outline.{Outline, in_force, from, result, record_calls, played, records, opened, run}
 use Rattle.outline.specs.Struct.{outline_of}
 use Rattle.outline.specs.declared.Course.{Course}
 use Rattle.outline.proofs.Playing.{shorter}
 use Rattle.timeline.specs.Events.{events, records_in, list_of, events_of}
-use Rattle.timeline.specs.Merged.{both, merged_from, merged_records}
+use Rattle.timeline.specs.Merged.{merged_from, merged_records}
 use Rattle.timeline.specs.Merge.{merge}
 use Rattle.timeline.specs.Order.{at}
 use Rattle.timeline.specs.Theorems.{Plays}

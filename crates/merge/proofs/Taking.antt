@@ -1,19 +1,17 @@
 -- A turn of a merge, in the code's structs.
-use mathlib.Core.Path.{◌≡◌, refl, sym, ap, subst, ◌∙◌}
-use mathlib.Core.List.{List, [], ◌∷◌}
+use mathlib.Core.Path.{◌≡◌, sym, ap, subst, ◌∙◌}
+use mathlib.Core.List.{List, ◌∷◌}
 use Prim.Native.Nat.{ℕ, ◌+◌, ◌-◌, ◌≤◌, ◌<◌}
 use native.Mathlib.Omega.{arith}
 use lib.ListN.{length, get_or, drop, length-drop}
 use Rattle.record.specs.Record.{record_number, fields, rest}
-use Rattle.follow.specs.Follow.{value}
-use Rattle.outline.specs.Outline.{Outline}
 use Rattle.outline.specs.Struct.{outline_of}
 use Rattle.outline.proofs.Playing.{shorter}
 use Rattle.timeline.specs.Events.{Event, event}
 use Rattle.timeline.specs.Merged.{merge_record}
 use Rattle.merge.specs.declared.Side.{Side}
 use Rattle.merge.specs.declared.Pair.{Pair}
-use Rattle.merge.specs.Left.{Left, LeftAt, OnWay, Took}
+use Rattle.merge.specs.Left.{LeftAt, OnWay, Took}
 use Rattle.merge.specs.Turn.{next, wait_left, Next, Choosable, Steps, Later}
 use Rattle.merge.proofs.Turns.{Whole, whole, early, first_turn, second_turn}
 

@@ -1,7 +1,7 @@
 -- One turn of a merge, in what is left of both scores: the merged record, and what is left then.
-use mathlib.Core.Path.{◌≡◌, refl, sym, ap, subst, ◌∙◌}
+use mathlib.Core.Path.{◌≡◌, refl, sym, ap, ◌∙◌}
 use mathlib.Core.List.{List, [], ◌∷◌}
-use Prim.Native.Nat.{ℕ, zero, suc, ◌+◌, ◌-◌, ◌≤◌, ◌<◌}
+use Prim.Native.Nat.{ℕ, ◌+◌, ◌-◌, ◌≤◌, ◌<◌}
 use native.Mathlib.Omega.{arith}
 use borrow.Author.Tests.{le-leb, lt-leb}
 use lib.ListN.{length}
@@ -9,7 +9,7 @@ use Rattle.record.specs.Record.{record_number, fields, rest}
 use Rattle.follow.specs.Follow.{value}
 use Rattle.outline.specs.Outline.{Outline, from, result, record_calls}
 use Rattle.timeline.specs.Merge.{merge}
-use Rattle.timeline.specs.Events.{Event, event, events}
+use Rattle.timeline.specs.Events.{event, events}
 use Rattle.timeline.specs.Order.{at, Ready}
 use Rattle.timeline.specs.Order as Order
 use Rattle.timeline.specs.Merged.{merge_record, merged_from}

@@ -6,7 +6,7 @@ use Prim.Native.Nat.{ℕ, ◌+◌, ◌-◌, ◌≤◌, ◌<◌}
 use native.Mathlib.Omega.{arith}
 use lib.ListN.{length, get_or, drop, length-append, length-drop}
 use Rattle.octets.specs.Octets.{laid}
-use Rattle.octets.proofs.Laws.{laid_nil, laid_next, laid-length}
+use Rattle.octets.proofs.Laws.{laid_nil, laid_next}
 use Rattle.record.specs.Record.{bytes}
 use Rattle.outline.specs.Outline.{Outline, from, result, record_calls}
 use Rattle.outline.specs.Struct.{outline_of, Follows}
@@ -18,7 +18,7 @@ use Rattle.timeline.specs.Order.{at}
 use Rattle.timeline.specs.Ends.{Ends, done, next}
 use Rattle.timeline.specs.Merged.{merged_from, record_bytes, all_bytes}
 use Rattle.merge.specs.declared.Pair.{Pair}
-use Rattle.merge.specs.Left.{Holds, none, more, Left, LeftAt, OnWay, Took}
+use Rattle.merge.specs.Left.{Holds, none, more, LeftAt, OnWay, Took}
 use Rattle.merge.specs.Walk.{AnyLeft, Puts, begin, Fitting, Walks}
 use Rattle.merge.proofs.Putting.{record-length}
 

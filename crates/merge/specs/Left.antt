@@ -9,7 +9,6 @@ use Rattle.timeline.specs.Merge.{merge}
 use Rattle.timeline.specs.Events.{events}
 use Rattle.timeline.specs.Order.{at, Ready}
 use Rattle.timeline.specs.Merged.{merged_from}
-use Rattle.merge.specs.declared.Side.{Side}
 use Rattle.merge.specs.declared.Pair.{Pair}
 
 module _ (N Na : ℕ) where

@@ -1,5 +1,5 @@
 -- What the parts of one turn of a merge need and return. Definitions alone.
-use Rattle.std.specs.Prelude.{◌≡◌, Bool, true, false, List, ℕ, ◌+◌, ◌-◌, ◌≤◌, ◌<◌, length, drop}
+use Rattle.std.specs.Prelude.{◌≡◌, true, false, List, ℕ, ◌+◌, ◌-◌, ◌≤◌, ◌<◌, length, drop}
 use Rattle.record.specs.Record.{fields, rest}
 use Rattle.follow.specs.Follow.{value}
 use Rattle.outline.specs.Outline.{from, result, record_calls}

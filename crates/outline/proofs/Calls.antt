@@ -1,8 +1,8 @@
 -- Calls one after the other on an outline, and the parts of a record: its wait, loss, change and pluck.
-use mathlib.Core.Path.{◌≡◌, refl, sym, ap, subst, ◌∙◌}
+use mathlib.Core.Path.{◌≡◌, refl, sym, ap, ◌∙◌}
 use mathlib.Core.Bool.{Bool, true, false, cond}
 use mathlib.Core.List.{List, [], ◌∷◌, ◌++◌, append-nil}
-use Prim.Native.Nat.{ℕ, zero, suc, ◌+◌, ◌≤◌, ◌<◌}
+use Prim.Native.Nat.{ℕ, ◌+◌}
 use native.Mathlib.Omega.{arith}
 use borrow.Author.Tests.{eq-eqb, ne_eqb, eqb-true, eqb-false}
 use lib.Dec.{eqb}
@@ -15,7 +15,7 @@ use Rattle.rule.specs.Voice.{Tuning, tuning}
 use Rattle.rule.specs.Calls.{Call, block, loss, pluck, announce, instant}
 use Rattle.follow.specs.Follow.{value, stands, absent, count_of}
 use Rattle.follow.proofs.Waits.{zeros-quiet}
-use Rattle.outline.specs.Outline.{Outline, passed, change_tests, number, told, call, from, numbers, result}
+use Rattle.outline.specs.Outline.{Outline, passed, change_tests, number, told, call, from, result}
 use Rattle.outline.specs.Outline.{then, wait_calls, loss_calls, length_to, delay_to, changing, change_calls}
 use Rattle.outline.specs.Outline.{pluck_calls, act_calls, record_calls}
 

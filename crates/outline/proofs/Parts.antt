@@ -8,13 +8,13 @@ use mathlib.Core.List.{List}
 use mathlib.Core.Option.{some}
 use Rattle.refusal.specs.Limits.{refusal}
 use Rattle.rule.specs.Voice.{Tuning, tuning}
-use Rattle.rule.specs.Calls.{Call, announce, instant}
+use Rattle.rule.specs.Calls.{announce, instant}
 use Rattle.follow.specs.Follow.{stands}
 use Rattle.outline.specs.declared.Effect.{Effect}
 use Rattle.outline.specs.declared.Course.{Course}
 use Rattle.outline.specs.declared.Span.{Span}
-use Rattle.outline.specs.Outline.{Ahead, Outline, in_force, change_tests, told, from, result, length_to, delay_to}
-use Rattle.outline.specs.Outline.{changing, change_calls, loss_calls, pluck_calls, act_calls}
+use Rattle.outline.specs.Outline.{Outline, in_force, change_tests, told, from, result, length_to, delay_to}
+use Rattle.outline.specs.Outline.{change_calls, loss_calls, pluck_calls}
 use Rattle.outline.specs.Struct.{ahead_of, outline_of, Asks, after_change, Changes, Acts}
 use Rattle.outline.proofs.Calls.{no_change, change-result, change-from, act_loss, act_change, act_pluck, act_from}
 

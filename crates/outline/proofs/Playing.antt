@@ -9,7 +9,7 @@ use Rattle.record.specs.Record.{bytes, map_of, record_number, fields, rest}
 use Rattle.record.proofs.Reading.{taken-rest}
 use Rattle.score.specs.Run.{Outcome, ends, joined}
 use Rattle.outline.specs.Outline.{Outline, from, result, record_calls, played, records}
-use Rattle.outline.specs.Struct.{EndsAs, PlaysAll}
+use Rattle.outline.specs.Struct.{PlaysAll}
 
 -- a record that is read takes a byte at least
 pub shorter : (t : List ℕ) → 0 < length t → record_number t ≡ 0 → length (rest t) < length t

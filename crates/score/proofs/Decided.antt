@@ -1,14 +1,13 @@
 -- Header and records, part by part: each is accepted, as specs/Reached.antt has it, or refused, as
 -- specs/Ends.antt has it. Assumes nothing.
-use mathlib.Core.Path.{◌≡◌, refl, sym, ap, subst, ◌∙◌}
+use mathlib.Core.Path.{◌≡◌, refl}
 use mathlib.Core.Logic.{◌⊎◌, inl, inr, ⊎_elim}
-use mathlib.Core.List.{List, [], ◌∷◌}
+use mathlib.Core.List.{List}
 use mathlib.Core.Option.{Option, none, some}
-use Prim.Native.Nat.{ℕ, zero, suc, ◌+◌, ◌*◌, ◌-◌, ◌≤◌, ◌<◌}
+use Prim.Native.Nat.{ℕ, ◌≤◌}
 use native.Mathlib.Omega.{arith}
 use native.Mathlib.Decide.{dec_le, ℕ_discrete}
-use lib.IntN.{ℤ}
-use lib.ListN.{length, get_or, drop, length-drop}
+use lib.ListN.{length}
 use Rattle.refusal.specs.Orders.{orders, lowest, highest}
 use Rattle.rule.specs.Voice.{Waiting}
 use Rattle.rule.specs.State.{State, call}
@@ -17,23 +16,16 @@ use Rattle.refusal.specs.Limits.{Between}
 use Rattle.record.specs.Record.{map_of, ill_formed, field}
 use Rattle.record.specs.Returns.{IllFormed}
 use Rattle.record.proofs.Returns.{ill, found, stands}
-use Rattle.score.specs.declared.Played.{Played}
-use Rattle.score.specs.Played.{Runs}
-use Rattle.score.specs.Reached.{header, HeaderOpens, OrderIn, LengthIn, DelayIn, LossIn, AdvanceIn, Has}
+use Rattle.score.specs.Reached.{header, HeaderOpens, Has}
 use Rattle.score.specs.Reached.{Lacks, size, keeping}
-use Rattle.score.specs.Reached.{Readable, waited}
-use Rattle.score.specs.Reached.{SetsLoss, as_it_was, set, Given, present, absent, AsksChange, Delayed}
+use Rattle.score.specs.Reached.{Readable}
+use Rattle.score.specs.Reached.{SetsLoss, as_it_was, set, Given, present, absent, AsksChange}
 use Rattle.score.specs.Reached.{MakesChange, no_change, changed, MakesPluck, no_pluck, plucked}
-use Rattle.score.specs.Reached.{Reached, first, later}
 use Rattle.score.specs.Ends.{HeaderRefused, RecordRefused, LossRefused, ChangeRefused, PluckRefused}
 use Rattle.score.specs.Ends.{cut, order, long, delay, loss, advance, ill_formed_lem, full, loss_outside}
 use Rattle.score.specs.Ends.{waits}
 use Rattle.score.specs.Ends.{amplitude, count}
-use Rattle.score.specs.Ends.{Ends, unopened, record_refused, lossless, unchanged, unplucked, success}
-use Rattle.score.specs.Ends.{Answered}
 use Rattle.score.proofs.Parts.{manner}
-use Rattle.score.proofs.Standing.{Standing, standing}
-use Rattle.score.proofs.Ending.{Returns, ending}
 
 -- ---- what is within its limits or not
 pub between : (low x high : ℕ) → Between low x high ⊎ (Between low x high → ⊥)

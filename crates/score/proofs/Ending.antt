@@ -1,6 +1,6 @@
 -- Each way in which a run can end, as specs/Ends.antt has them, is how the run ends.
 -- Assumes nothing.
-use mathlib.Core.Path.{◌≡◌, refl, sym, ap, subst, ◌∙◌}
+use mathlib.Core.Path.{◌≡◌, refl, sym, ap, subst}
 use mathlib.Core.List.{List, [], ◌∷◌}
 use Prim.Native.Nat.{ℕ, ◌+◌, ◌-◌, ◌≤◌, ◌<◌}
 use native.Mathlib.Omega.{arith}
@@ -9,11 +9,9 @@ use lib.IntN.{ℤ}
 use lib.ListN.{length, drop, length-drop}
 use Rattle.refusal.specs.Limits.{refusal}
 use Rattle.refusal.specs.Returned.{Kept, none, more}
-use Rattle.refusal.proofs.Returned.{past, kept-is}
-use Rattle.rule.specs.Calls.{open_limits}
 use Rattle.rule.specs.State.{State, fresh, puts}
 use Rattle.rule.proofs.Refusals.{refuses}
-use Rattle.record.specs.Record.{map_of, bytes, field, fields, whole, formed}
+use Rattle.record.specs.Record.{map_of, field, fields, whole, formed}
 use Rattle.record.proofs.Reading.{good_map, taken-fields}
 use Rattle.record.proofs.Returns.{well, ill, bytes_are}
 use Rattle.follow.specs.Follow.{value, wait_calls, loss_calls, change_calls, pluck_calls, then, act_calls}

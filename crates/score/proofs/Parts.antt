@@ -2,7 +2,7 @@
 -- makes: the number that ends each part, and the voice that it leaves. Assumes nothing.
 use mathlib.Core.Path.{◌≡◌, refl, sym, ap, subst, ◌∙◌}
 use mathlib.Core.Bool.{cond}
-use mathlib.Core.List.{List, [], ◌∷◌, ◌++◌}
+use mathlib.Core.List.{List, [], ◌∷◌}
 use Prim.Native.Nat.{ℕ, ◌+◌}
 use native.Mathlib.Omega.{arith}
 use borrow.Author.Tests.{eq-eqb, ne_eqb}
@@ -18,11 +18,11 @@ use Rattle.rule.specs.Refusals.{ChangeReturns}
 use Rattle.rule.proofs.Refusals.{refuses}
 use Rattle.record.specs.Record.{bit, map_of, field, read}
 use Rattle.record.proofs.Returns.{down, stands}
-use Rattle.follow.specs.Follow.{loss_calls, length_to, delay_to, change, change_calls, count_of}
+use Rattle.follow.specs.Follow.{loss_calls, change, change_calls, count_of}
 use Rattle.follow.specs.Follow.{pluck_calls, result, then}
 use Rattle.rule.proofs.Puts.{from-append}
 use Rattle.follow.proofs.Sequence.{result-past, result-one, then-past, then-stops}
-use Rattle.score.specs.Reached.{Has, Lacks, SetsLoss, as_it_was, set, Given, present, absent}
+use Rattle.score.specs.Reached.{Has, SetsLoss, as_it_was, set, Given, present, absent}
 use Rattle.score.specs.Reached.{AsksChange, Manner, announced, instantly, keeping, MakesChange}
 use Rattle.score.specs.Reached.{no_change, changed}
 use Rattle.score.specs.Reached.{MakesPluck, no_pluck, plucked}

@@ -1,8 +1,8 @@
 -- A record that is reached is one that the run stands before: what was played, and what is left of the run.
 -- Assumes nothing.
 use mathlib.Core.Path.{◌≡◌, refl, sym, ap, subst, ◌∙◌}
-use mathlib.Core.List.{List, [], ◌∷◌}
-use Prim.Native.Nat.{ℕ, zero, suc, ◌+◌, ◌-◌, ◌≤◌, ◌<◌}
+use mathlib.Core.List.{List}
+use Prim.Native.Nat.{ℕ, ◌+◌, ◌-◌, ◌≤◌, ◌<◌}
 use native.Mathlib.Omega.{arith}
 use native.Mathlib.Nat.{le_refl, le_of_eq}
 use lib.IntN.{ℤ}
@@ -10,15 +10,14 @@ use lib.ListN.{length, drop, length-drop}
 use lib.Seq.{drop-drop}
 use Rattle.refusal.specs.Limits.{refusal}
 use Rattle.refusal.specs.Returned.{Kept, none, more}
-use Rattle.rule.specs.Calls.{Call}
-use Rattle.rule.specs.State.{State, fresh, from, puts}
+use Rattle.rule.specs.State.{State, fresh, puts}
 use Rattle.rule.specs.Valid.{Whole}
 use Rattle.rule.proofs.States.{call-whole, fresh-whole, from-whole}
 use Rattle.record.specs.Record.{map_of, field, fields, rest, record_number, whole, formed}
 use Rattle.record.specs.Returns.{IllFormed}
 use Rattle.record.proofs.Reading.{good_map, taken-fields, taken-rest}
 use Rattle.record.proofs.Returns.{well, bytes_are}
-use Rattle.follow.specs.Follow.{value, result, loss_calls, change_calls, pluck_calls, wait_calls, then}
+use Rattle.follow.specs.Follow.{value, loss_calls, change_calls, pluck_calls, wait_calls, then}
 use Rattle.follow.specs.Follow.{act_calls, record_calls}
 use Rattle.follow.proofs.Waits.{wait-taken}
 use Rattle.score.specs.Run.{opening, play_limits}

@@ -1,6 +1,6 @@
 -- When a record of a score is reached, and on which voice, in bits, bytes and ≤: the outside of a run, beside
 -- the definitions of specs/Run.antt, of which it uses none. Definitions alone. Assumes nothing.
-use Rattle.std.specs.Prelude.{◌≡◌, List, ℕ, ◌+◌, ◌*◌, ◌-◌, ◌≤◌, ◌<◌, pos, length, get_or, drop, replicate}
+use Rattle.std.specs.Prelude.{◌≡◌, List, ℕ, ◌+◌, ◌*◌, ◌-◌, ◌≤◌, pos, length, get_or, drop, replicate}
 use Rattle.std.proofs.Math.Option.{none}
 use Rattle.refusal.specs.Limits.{Between}
 use Rattle.refusal.specs.Orders.{orders, lowest, highest}

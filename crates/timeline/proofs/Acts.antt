@@ -1,20 +1,20 @@
 -- What a record does that is accepted: its wait, then its loss, change and pluck, at one step.
 -- Assumes nothing.
-use mathlib.Core.Path.{◌≡◌, refl, sym, ap, subst, ◌∙◌}
+use mathlib.Core.Path.{◌≡◌, refl, ap, subst, ◌∙◌}
 use mathlib.Core.Bool.{Bool, true, false, cond}
-use mathlib.Core.List.{List, [], ◌∷◌, ◌++◌, append_assoc, append-nil}
-use Prim.Native.Nat.{ℕ, zero, suc, ◌+◌, ◌-◌, ◌≤◌, ◌<◌}
+use mathlib.Core.List.{List, [], ◌∷◌, ◌++◌}
+use Prim.Native.Nat.{ℕ, ◌+◌}
 use native.Mathlib.Omega.{arith}
 use lib.Dec.{eqb}
-use lib.IntN.{ℤ, pos}
-use lib.ListN.{length, replicate, length-replicate}
-use Rattle.rule.specs.Voice.{Kind, announced, Tuning, tuning}
-use Rattle.rule.specs.Calls.{Call, block, loss, pluck, prepare, announce, instant, inputs}
-use Rattle.follow.specs.Follow.{value, stands, absent, count_of}
+use lib.IntN.{pos}
+use lib.ListN.{replicate, length-replicate}
+use Rattle.rule.specs.Voice.{Kind, Tuning}
+use Rattle.rule.specs.Calls.{Call, block, loss, pluck, prepare, announce, instant}
+use Rattle.follow.specs.Follow.{value, stands, absent}
 use Rattle.outline.specs.Outline.{Outline, passed, from, result, then}
-use Rattle.outline.specs.Outline.{wait_calls, loss_calls, changing, change_calls, pluck_calls, act_calls, record_calls}
+use Rattle.outline.specs.Outline.{wait_calls, loss_calls, change_calls, pluck_calls, act_calls, record_calls}
 use Rattle.outline.proofs.Calls.{both, wait_passes, loss_keeps}
-use Rattle.timeline.specs.Timed.{Timed, acts, one, timed}
+use Rattle.timeline.specs.Timed.{Timed, timed}
 use Rattle.timeline.proofs.Spread.{stamp}
 
 -- ---- an accepted record

@@ -1,18 +1,18 @@
 -- What an event does, in its own score and in a merge; and the steps of what a list of records does.
 -- Assumes nothing.
-use mathlib.Core.Path.{◌≡◌, refl, sym, ap, ap₂, subst, ◌∙◌}
-use mathlib.Core.Bool.{Bool, true, false, cond}
+use mathlib.Core.Path.{◌≡◌, refl, ap, ap₂, ◌∙◌}
+use mathlib.Core.Bool.{cond}
 use mathlib.Core.List.{List, [], ◌∷◌, ◌++◌}
-use Prim.Native.Nat.{ℕ, zero, suc, ◌+◌, ◌-◌, ◌≤◌, ◌<◌, min}
+use Prim.Native.Nat.{ℕ, zero, suc, ◌+◌, ◌-◌, min}
 use native.Mathlib.Omega.{arith}
 use lib.Dec.{eqb, eqb-suc-zero}
 use Rattle.rule.specs.Voice.{Tuning, tuning}
 use Rattle.rule.specs.Calls.{Call, loss, pluck}
-use Rattle.record.specs.Record.{bit, present}
+use Rattle.record.specs.Record.{present}
 use Rattle.follow.specs.Follow.{value, stands, absent, count_of}
 use Rattle.outline.specs.Outline.{Outline, passed, from, record_calls, loss_calls, changing, change_calls, pluck_calls}
 use Rattle.timeline.specs.Events.{Event, event, events}
-use Rattle.timeline.specs.Merged.{changes, map_for, merge_record, merged_from}
+use Rattle.timeline.specs.Merged.{merge_record, merged_from}
 use Rattle.timeline.specs.Timed.{Timed, timed}
 use Rattle.timeline.specs.Order.{at, Ready}
 use Rattle.timeline.specs.Order as Order

@@ -1,22 +1,20 @@
 -- Merged records are well formed, and their fields are 16 bits.
 -- Assumes nothing.
-use mathlib.Core.Path.{◌≡◌, refl, sym, ap, ap₂, subst, ◌∙◌}
+use mathlib.Core.Path.{◌≡◌, refl, sym, ◌∙◌}
 use mathlib.Core.Bool.{Bool, true, false, cond}
-use mathlib.Core.List.{List, [], ◌∷◌, ◌++◌}
-use Prim.Native.Nat.{ℕ, zero, suc, ◌+◌, ◌-◌, ◌*◌, ◌≤◌, ◌<◌, min}
+use mathlib.Core.List.{List, [], ◌∷◌}
+use Prim.Native.Nat.{ℕ, zero, suc, ◌+◌, ◌-◌, ◌<◌, min}
 use native.Mathlib.Omega.{arith}
-use borrow.Author.Tests.{ne_eqb, leb-true, leb-false, eqb-false, eqb-true}
-use lib.Dec.{eqb, leb}
+use borrow.Author.Tests.{ne_eqb}
+use lib.Dec.{leb}
 use lib.ListN.{get_or}
-use Rattle.refusal.specs.Limits.{refusal}
 use Rattle.refusal.proofs.Tests.{accepted}
 use Rattle.refusal.specs.Orders.{order, delay}
 use Rattle.rule.specs.Tests as Tests
-use Rattle.rule.specs.Voice.{Tuning, tuning}
-use Rattle.rule.specs.Calls.{Call, announce, instant}
-use Rattle.record.specs.Record.{bit, present, without, ill_formed}
+use Rattle.rule.specs.Voice.{tuning}
+use Rattle.record.specs.Record.{present, without, ill_formed}
 use Rattle.follow.specs.Follow.{value, stands, absent, count_of}
-use Rattle.outline.specs.Outline.{Outline, passed, from, number, result, record_calls, changing, change_calls, change_tests}
+use Rattle.outline.specs.Outline.{Outline, passed, result, change_calls}
 use Rattle.outline.specs.Outline.{waits, length_to, delay_to}
 use Rattle.outline.proofs.Calls.{single, change-number}
 use Rattle.timeline.specs.Merge.{merge}

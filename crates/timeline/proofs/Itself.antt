@@ -1,27 +1,24 @@
 -- The merge of a score with its own header alone.
 -- Assumes nothing.
-use mathlib.Core.Path.{◌≡◌, refl, sym, ap, ap₂, subst, ◌∙◌}
-use mathlib.Core.Bool.{Bool, true, false, cond}
+use mathlib.Core.Path.{◌≡◌, refl, sym, ap, subst, ◌∙◌}
 use mathlib.Core.List.{List, [], ◌∷◌, ◌++◌}
-use Prim.Native.Nat.{ℕ, zero, suc, ◌+◌, ◌-◌, ◌≤◌, ◌<◌}
+use Prim.Native.Nat.{ℕ, ◌+◌, ◌-◌}
 use native.Mathlib.Omega.{arith}
-use borrow.Author.Tests.{eq-eqb, ne_eqb}
-use lib.Dec.{eqb}
-use lib.ListN.{length, get_or, take, drop, drop_of_length-le}
+use borrow.Author.Tests.{eq-eqb}
+use lib.ListN.{length, take, drop, drop_of_length-le}
 use lib.Seq.{length-take-le, take-take}
 use Rattle.octets.specs.Theorems.{Bytes}
 use Rattle.octets.proofs.Laws.{taken-bytes}
 use Rattle.refusal.specs.Limits.{refusal}
 use Rattle.rule.specs.Calls.{Call, Opening}
 use Rattle.follow.specs.Follow.{value}
-use Rattle.record.specs.Record.{record_number, fields, rest}
 use Rattle.score.specs.Run.{Outcome, opening, header_limits}
 use Rattle.score.specs.Run as Score
 use Rattle.outline.specs.Outline.{Outline, passed, result, from, then, wait_calls, loss_calls, change_calls, pluck_calls}
-use Rattle.outline.specs.Outline.{in_force, act_calls, record_calls, played, records, opened, run}
+use Rattle.outline.specs.Outline.{in_force, act_calls, record_calls, records, opened, run}
 use Rattle.timeline.specs.Merge.{merge}
-use Rattle.timeline.specs.Events.{Event, event, records_in, events, events_of, list_of}
-use Rattle.timeline.specs.Merged.{merge_record, merged_from, both, merged_records, record_bytes, all_bytes, merge_of}
+use Rattle.timeline.specs.Events.{Event, event, records_in, events, events_of}
+use Rattle.timeline.specs.Merged.{merge_record, merged_from, both, merged_records, merge_of}
 use Rattle.timeline.specs.Theorems.{Plays, Itself}
 use Rattle.timeline.specs.Order.{at}
 use Rattle.outline.proofs.Calls.{then-calls, wait-accepted, wait_passes, loss_keeps}
@@ -29,11 +26,7 @@ use Rattle.timeline.proofs.Acts.{accepts, all, waiting}
 use Rattle.timeline.specs.Ends.{Ends, done, next}
 use Rattle.timeline.proofs.Listing.{listed}
 use Rattle.timeline.proofs.Doings.{merged-loss, merged-change, merged_doings}
-use Rattle.timeline.proofs.Order.{both-ready}
-use Rattle.timeline.proofs.ReadBack.{Written, number_back, fields_back, rest_back, many-bytes}
-use Rattle.timeline.proofs.ReadBack as Back
-use Rattle.timeline.proofs.Fine.{written}
-use Rattle.timeline.proofs.Merging.{N, Na, Ended, ended, eight, fine, body_is, merging, alone}
+use Rattle.timeline.proofs.Merging.{N, Na, Ended, ended, eight, merging, alone}
 use Rattle.timeline.proofs.Six.{opens_as, same-opening}
 use Rattle.timeline.proofs.Whole.{ends-plays}
 

@@ -1,19 +1,19 @@
 -- How long a list of records lasts, and a merge: as long as the longer.
 -- Assumes nothing.
-use mathlib.Core.Path.{◌≡◌, refl, sym, ap, ◌∙◌}
+use mathlib.Core.Path.{◌≡◌, refl, ap, ◌∙◌}
 use mathlib.Core.Bool.{Bool, true, false, cond}
 use mathlib.Core.List.{List, [], ◌∷◌, ◌++◌}
-use Prim.Native.Nat.{ℕ, zero, suc, ◌+◌, ◌-◌, ◌≤◌, ◌<◌, max}
+use Prim.Native.Nat.{ℕ, ◌+◌, ◌-◌, ◌≤◌, max}
 use native.Mathlib.Omega.{arith}
 use borrow.Author.Tests.{leb-true, leb-false}
 use lib.Dec.{leb}
 use lib.IntN.{pos}
-use lib.ListN.{length, length-replicate}
+use lib.ListN.{length-replicate}
 use Rattle.rule.specs.Calls.{Call}
 use Rattle.follow.specs.Follow.{value}
 use Rattle.outline.specs.Outline.{Outline, passed, from, record_calls}
 use Rattle.timeline.specs.Merge.{merge}
-use Rattle.timeline.specs.Events.{Event, event, events}
+use Rattle.timeline.specs.Events.{Event, events}
 use Rattle.timeline.specs.Merged.{merge_record, merged_from}
 use Rattle.timeline.specs.Timed.{lasts}
 use Rattle.timeline.specs.Order.{at, wait, Ready}

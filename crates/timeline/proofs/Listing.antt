@@ -1,9 +1,9 @@
 -- A run that ends, by its outline: the calls of its records, each accepted.
 -- Assumes nothing.
-use mathlib.Core.Path.{◌≡◌, refl, sym, ap, subst, ◌∙◌}
+use mathlib.Core.Path.{◌≡◌, refl, ap}
 use mathlib.Core.Bool.{Bool, true, false, cond}
 use mathlib.Core.List.{List, [], ◌∷◌, ◌++◌}
-use Prim.Native.Nat.{ℕ, zero, suc, ◌+◌, ◌≤◌, ◌<◌}
+use Prim.Native.Nat.{ℕ, zero, suc, ◌+◌}
 use native.Mathlib.Omega.{arith}
 use borrow.Author.Tests.{eqb-true, eqb-false}
 use lib.Dec.{eqb}
@@ -15,7 +15,7 @@ use Rattle.score.specs.Run.{Outcome, ends, joined}
 use Rattle.outline.specs.Outline.{Outline, from, result, record_calls, played, records}
 use Rattle.timeline.specs.Events.{records_in}
 use Rattle.timeline.specs.Ends.{Ends, done, next}
-use Rattle.timeline.proofs.Sound.{Sound, AllSound, none, more, sound_fields, rest-bytes}
+use Rattle.timeline.proofs.Sound.{AllSound, none, more, sound_fields, rest-bytes}
 
 module _ (N Na : ℕ) where
   -- the calls of the records rs

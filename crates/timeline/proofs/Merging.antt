@@ -2,17 +2,16 @@
 -- Assumes nothing.
 use mathlib.Core.Path.{◌≡◌, refl, sym, ap, ap₂, subst, ◌∙◌}
 use mathlib.Core.Bool.{Bool, true, false, cond}
-use mathlib.Core.List.{List, [], ◌∷◌, ◌++◌}
-use Prim.Native.Nat.{ℕ, zero, suc, ◌+◌, ◌-◌, ◌≤◌, ◌<◌, max}
+use mathlib.Core.List.{List, [], ◌∷◌}
+use Prim.Native.Nat.{ℕ, suc, ◌+◌, ◌≤◌, max}
 use native.Mathlib.Omega.{arith}
 use borrow.Author.Tests.{eqb-true, eqb-false}
 use lib.Dec.{eqb, leb}
-use lib.ListN.{length, get_or, take, drop, length-take}
+use lib.ListN.{length, get_or, take, drop}
 use lib.Seq.{get_or-take, take_at, drop_at, length-take-le}
 use Rattle.octets.specs.Theorems.{Bytes}
 use Rattle.octets.proofs.Laws.{dropped-bytes}
 use Rattle.refusal.specs.Limits.{refusal}
-use Rattle.refusal.specs.Returned.{AllKept}
 use Rattle.refusal.proofs.Passed.{first-kept}
 use Rattle.refusal.proofs.Returned.{returned}
 use Rattle.rule.specs.Calls.{Call}
@@ -23,7 +22,7 @@ use Rattle.outline.proofs.Law.{law}
 use Rattle.follow.specs.Follow.{value}
 use Rattle.timeline.specs.Merge.{merge}
 use Rattle.timeline.specs.Events.{Event, events, events_of, records_in, list_of}
-use Rattle.timeline.specs.Merged.{merge_record, merged_from, both, merged_records, all_bytes, merge_of}
+use Rattle.timeline.specs.Merged.{merged_from, both, merged_records, all_bytes, merge_of}
 use Rattle.timeline.specs.Timed.{Timed, timed, lasts}
 use Rattle.timeline.specs.Theorems.{Plays, Alone, does, Merges, Played, Merging}
 use Rattle.timeline.specs.Order.{at}

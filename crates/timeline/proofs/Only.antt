@@ -1,32 +1,31 @@
 -- What a merged record can end with: 0, or 6 where the advance is above 0.
 -- Assumes nothing.
-use mathlib.Core.Path.{◌≡◌, refl, sym, ap, ap₂, subst, ◌∙◌}
+use mathlib.Core.Path.{◌≡◌, refl, sym, ap, subst, ◌∙◌}
 use mathlib.Core.Bool.{Bool, true, false, cond}
 use mathlib.Core.List.{List, [], ◌∷◌, ◌++◌, append-nil}
 use mathlib.Core.Option.{Option, none, some}
-use Prim.Native.Nat.{ℕ, zero, suc, ◌+◌, ◌-◌, ◌≤◌, ◌<◌}
+use Prim.Native.Nat.{ℕ, zero, suc, ◌+◌, ◌<◌}
 use native.Mathlib.Omega.{arith}
 use native.Mathlib.Decide.{ℕ_discrete}
 use borrow.Author.Tests.{eq-eqb, ne_eqb, eqb-true, eqb-false}
-use lib.Dec.{eqb, leb}
-use lib.IntN.{pos}
-use lib.ListN.{length, replicate}
+use lib.Dec.{eqb}
+use lib.ListN.{length}
 use Rattle.refusal.specs.Limits.{Limit, refusal}
 use Rattle.refusal.specs.Orders.{order, delay}
 use Rattle.refusal.proofs.Tests.{In, accepted, refused}
 use Rattle.rule.specs.Tests.{long}
 use Rattle.rule.specs.Voice.{Tuning, tuning}
-use Rattle.rule.specs.Calls.{Call, block, loss, pluck, prepare, announce, instant, commit, withdraw}
+use Rattle.rule.specs.Calls.{Call, block, loss, pluck, prepare, instant, commit, withdraw}
 use Rattle.follow.specs.Follow.{value, stands, absent, count_of}
-use Rattle.outline.specs.Outline.{Outline, Ahead, in_force, ticks, tick, passed, waits, change_tests, number, told, call, from}
-use Rattle.outline.specs.Outline.{numbers, result, then, wait_calls, loss_calls, changing, change_calls, pluck_calls}
+use Rattle.outline.specs.Outline.{Outline, Ahead, tick, passed, waits, change_tests, number, told, call, from}
+use Rattle.outline.specs.Outline.{result, then, wait_calls, loss_calls, changing, change_calls, pluck_calls}
 use Rattle.outline.specs.Outline.{act_calls, record_calls}
 use Rattle.outline.proofs.Calls.{single, change-number, result-past, wait-accepted}
 use Rattle.timeline.specs.Events.{Event, event, events}
 use Rattle.timeline.specs.Merged.{merge_record}
 use Rattle.timeline.specs.Theorems.{Possible, plays}
 use Rattle.timeline.specs.Theorems as Theorems
-use Rattle.timeline.proofs.Acts.{accepts, waiting}
+use Rattle.timeline.proofs.Acts.{accepts}
 use Rattle.timeline.specs.Ends.{Ends, done, next}
 use Rattle.timeline.proofs.Doings.{merged-loss, merged-change, merged-pluck}
 use Rattle.timeline.proofs.Fine.{All}

@@ -1,17 +1,16 @@
 -- Events in order, and their merge: a merged wait never exceeds the record's own.
 -- Assumes nothing.
-use mathlib.Core.Path.{◌≡◌, refl, sym, ap, ◌∙◌}
+use mathlib.Core.Path.{◌≡◌, refl}
 use mathlib.Core.Bool.{Bool, true, false, cond}
-use mathlib.Core.List.{List, [], ◌∷◌, ◌++◌}
-use Prim.Native.Nat.{ℕ, zero, suc, ◌+◌, ◌-◌, ◌≤◌, ◌<◌}
+use mathlib.Core.List.{List, [], ◌∷◌}
+use Prim.Native.Nat.{ℕ, ◌+◌, ◌-◌, ◌≤◌}
 use native.Mathlib.Omega.{arith}
 use borrow.Author.Tests.{leb-true, leb-false}
 use lib.Dec.{leb}
-use lib.ListN.{length}
 use Rattle.follow.specs.Follow.{value}
 use Rattle.score.specs.Run.{opening}
 use Rattle.outline.specs.Outline.{Outline, from, record_calls, opened}
-use Rattle.timeline.specs.Merge.{insert, merge}
+use Rattle.timeline.specs.Merge.{merge}
 use Rattle.timeline.specs.Events.{Event, event, events, events_of, list_of}
 use Rattle.timeline.specs.Order.{at, wait, Ready, done, next}
 use Rattle.timeline.specs.Merged.{merge_record, merged_from, merged_records, both}

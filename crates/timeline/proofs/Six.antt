@@ -1,6 +1,6 @@
 -- A merge that does not play to its end, given output enough, ends with 6, and not where the advance is 0.
 -- Assumes nothing.
-use mathlib.Core.Path.{◌≡◌, refl, sym, ap, ap₂, subst, ◌∙◌}
+use mathlib.Core.Path.{◌≡◌, refl, sym, ap, subst, ◌∙◌}
 use mathlib.Core.Bool.{Bool, true, false, cond}
 use mathlib.Core.List.{List, [], ◌∷◌, ◌++◌}
 use Prim.Native.Nat.{ℕ, zero, suc, ◌+◌, ◌-◌, ◌≤◌, ◌<◌}
@@ -16,22 +16,21 @@ use Rattle.refusal.specs.Returned as Returned
 use Rattle.refusal.proofs.Passed.{rest-kept}
 use Rattle.refusal.proofs.Returned.{returned}
 use Rattle.rule.specs.Calls.{Call, Opening, open_limits}
-use Rattle.record.specs.Record.{record_number, fields, rest, word}
+use Rattle.record.specs.Record.{record_number, fields, rest}
 use Rattle.score.specs.Run.{Outcome, ends, joined, opening, header_limits}
 use Rattle.score.specs.Run as Score
 use Rattle.outline.specs.Outline.{Outline, result, from, record_calls, played, records, opened, run}
 use Rattle.outline.proofs.Law.{law}
-use Rattle.timeline.specs.Merge.{merge}
-use Rattle.timeline.specs.Events.{Event, events_of, list_of}
+use Rattle.timeline.specs.Events.{Event, events_of}
 use Rattle.timeline.specs.Merged.{merge_record, merged_from, both, merged_records, record_bytes, all_bytes, merge_of}
 use Rattle.timeline.specs.Theorems.{Plays, Possible, plays, OnlySix}
-use Rattle.timeline.specs.Order.{at, Ready}
+use Rattle.timeline.specs.Order.{at}
 use Rattle.timeline.proofs.Order.{both-ready}
 use Rattle.timeline.proofs.ReadBack.{Written, number_back, fields_back, rest_back, many-bytes}
 use Rattle.timeline.proofs.ReadBack as Back
 use Rattle.timeline.proofs.Fine.{All, all-merge, written}
 use Rattle.timeline.proofs.Fine as Fine
-use Rattle.timeline.proofs.Merging.{N, Na, Ended, ended, eight, ea, eb, fine, header_is, body_is}
+use Rattle.timeline.proofs.Merging.{N, Na, eight, ea, eb, fine, header_is, body_is}
 use Rattle.timeline.proofs.Only.{Idle, from-idle, Took, events-took, merged-six}
 
 -- ---- a list of records

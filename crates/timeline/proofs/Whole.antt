@@ -1,20 +1,18 @@
 -- A merge plays to its end if and only if each merged record is accepted after those before it.
-use mathlib.Core.Path.{◌≡◌, refl, sym, ap, subst, ◌∙◌}
-use mathlib.Core.List.{List, [], ◌∷◌, ◌++◌}
-use Prim.Native.Nat.{ℕ, zero, suc, ◌+◌, ◌≤◌, ◌<◌}
+use mathlib.Core.Path.{◌≡◌, sym, subst, ◌∙◌}
+use mathlib.Core.List.{List, ◌++◌}
+use Prim.Native.Nat.{ℕ, zero, suc, ◌+◌, ◌≤◌}
 use native.Mathlib.Omega.{arith}
 use borrow.Author.Tests.{eq-eqb, ne_eqb}
-use lib.Dec.{eqb}
-use lib.ListN.{length, take, drop}
+use lib.ListN.{length, take}
 use Rattle.octets.specs.Theorems.{Bytes}
 use Rattle.refusal.specs.Limits.{refusal}
 use Rattle.rule.specs.Calls.{Opening}
 use Rattle.record.specs.Record.{record_number, fields, rest}
 use Rattle.score.specs.Run.{opening, header_limits}
 use Rattle.outline.specs.Outline.{Outline, in_force, from, result, record_calls, played, records, opened, run}
-use Rattle.timeline.specs.Events.{list_of}
 use Rattle.timeline.specs.Ends.{Ends, done, next}
-use Rattle.timeline.specs.Merged.{both, merged_records, record_bytes, all_bytes, merge_of}
+use Rattle.timeline.specs.Merged.{merged_records, record_bytes, all_bytes, merge_of}
 use Rattle.timeline.specs.Theorems.{Plays}
 use Rattle.timeline.proofs.Order.{both-ready}
 use Rattle.timeline.proofs.ReadBack.{Written, number_back, fields_back, rest_back, many-bytes}

@@ -10,7 +10,6 @@ use Rattle.voice.specs.Called.{On}
 use Rattle.follow.specs.Follow.{change, act_calls}
 use Rattle.follow.specs.Does.{Does}
 use Rattle.follow.proofs.Following.{does-one, none_both, change-alone, at_once, on_as}
-use borrow.Author.Rules.{rules}
 use Rattle.follow.proofs.act.Goals as goal
 use Rattle.follow.proofs.act.Lts as lts
 use Rattle.follow.proofs.act.Reads as reads

@@ -9,7 +9,6 @@ use Rattle.voice.specs.Called.{On}
 use Rattle.follow.specs.Follow as Run
 use Rattle.follow.specs.Does.{Does}
 use Rattle.follow.proofs.Following.{part_none, part-one, announced, at_once, on_as}
-use borrow.Author.Rules.{rules}
 use Rattle.follow.proofs.change.Goals as goal
 use Rattle.follow.proofs.change.Lts as lts
 use Rattle.follow.proofs.change.Reads as reads

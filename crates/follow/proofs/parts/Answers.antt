@@ -1,9 +1,7 @@
 -- `follow::parts` meets its contract: three parts, one after the other.
 -- Assumes nothing.
-use Rattle.voice.specs.Struct.{state_of}
 use Rattle.follow.specs.Follow.{loss_calls, change_calls, pluck_calls, then, act_calls}
 use Rattle.follow.proofs.Following.{does-stops, does-then}
-use borrow.Author.Rules.{rules}
 use Rattle.follow.proofs.parts.Goals as goal
 
 pub returns-then-g-ne0 : goal.returns-then-g-ne0

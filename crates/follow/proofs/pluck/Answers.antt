@@ -8,7 +8,6 @@ use Rattle.rule.specs.Calls.{pluck}
 use Rattle.voice.proofs.Called.{on}
 use Rattle.follow.specs.Follow.{value, stands, count_of}
 use Rattle.follow.proofs.Following.{part_none, part-one, on_as}
-use borrow.Author.Rules.{rules}
 use Rattle.follow.proofs.pluck.Goals as goal
 
 pub returns-then-bit-eq0 : goal.returns-then-bit-eq0

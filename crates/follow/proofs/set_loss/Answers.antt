@@ -5,7 +5,6 @@ use Rattle.rule.specs.Calls.{loss}
 use Rattle.voice.proofs.Called.{on}
 use Rattle.follow.specs.Follow.{value, stands}
 use Rattle.follow.proofs.Following.{part_none, part-one}
-use borrow.Author.Rules.{rules}
 use Rattle.follow.proofs.set_loss.Goals as goal
 
 pub returns-then-bit-eq0 : goal.returns-then-bit-eq0

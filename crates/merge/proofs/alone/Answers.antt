@@ -1,16 +1,15 @@
 -- `merge::alone` meets its contract: the header, and then its records.
-use borrow.Author.Rules.{rules}
 use mathlib.Core.Path.{◌≡◌, sym, ap, subst, ◌∙◌}
 use mathlib.Core.List.{List}
-use Prim.Native.Nat.{ℕ, ◌-◌}
+use Prim.Native.Nat.{ℕ}
 use native.Mathlib.Omega.{arith}
 use borrow.Author.Rules.{part_to_end}
-use lib.ListN.{length, take, drop}
+use lib.ListN.{drop}
 use Rattle.refusal.specs.Limits.{refusal}
 use Rattle.rule.specs.Calls.{Opening, open_limits}
 use Rattle.score.specs.Run.{opening, header_limits}
 use Rattle.score.proofs.Header.{header-cut, header-whole}
-use Rattle.outline.specs.Outline.{Outline, opened}
+use Rattle.outline.specs.Outline.{Outline}
 use Rattle.outline.specs.Struct.{outline_of, PlaysAll}
 use Rattle.merge.proofs.Opens.{opening-is, run-refused, run-plays, order_in}
 use Rattle.merge.proofs.alone.Goals as goal

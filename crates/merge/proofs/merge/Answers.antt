@@ -1,5 +1,4 @@
 -- `merge::merge` meets its contract: 28, 29, 30, in that order, or the merge.
-use borrow.Author.Rules.{rules}
 use mathlib.Core.Path.{◌≡◌, refl, sym, ap, subst, ◌∙◌}
 use mathlib.Core.Bool.{false}
 use mathlib.Core.List.{List}

@@ -1,5 +1,4 @@
 -- `merge::opening_course` meets its contract.
-use borrow.Author.Rules.{rules}
 use Rattle.outline.specs.Struct.{outline_of}
 use Rattle.merge.proofs.opening_course.Goals as goal
 

@@ -1,14 +1,8 @@
 -- `merge::put_header` meets its contract: byte by byte.
-use mathlib.Core.Path.{◌≡◌, sym, ap, ◌∙◌}
-use mathlib.Core.List.{List, [], ◌∷◌, ◌++◌}
-use Prim.Native.Nat.{ℕ, ◌+◌, ◌-◌, ◌≤◌, ◌<◌}
-use native.Mathlib.Numerals.{add-one}
-use native.Mathlib.Omega.{arith}
-use borrow.Author.Rules.{rules}
-use lib.ListN.{length, get_or, take, set}
-use lib.Seq.{take-suc, length-take-le}
+use mathlib.Core.Path.{◌≡◌}
+use Prim.Native.Nat.{◌-◌, ◌≤◌}
+use lib.ListN.{length, take}
 use Rattle.octets.specs.Octets.{laid}
-use Rattle.octets.proofs.Laws.{laid_nil, laid_next, set-laid}
 use Rattle.merge.proofs.put_header.Given as goal
 
 abbrev pub invariant-loop-i : goal.invariant-loop-i

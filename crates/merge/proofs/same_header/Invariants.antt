@@ -1,14 +1,7 @@
 -- `merge::same_header` meets its contract: as many bytes, and each the same.
-use mathlib.Core.Path.{◌≡◌, sym, ap, subst, ◌∙◌}
-use mathlib.Core.Bool.{true, false}
-use mathlib.Core.List.{List}
+use mathlib.Core.Path.{◌≡◌}
 use Prim.Native.Nat.{ℕ, ◌-◌, ◌≤◌, ◌<◌}
-use native.Mathlib.Omega.{arith}
-use borrow.Author.Count.{below_more}
-use borrow.Author.Rules.{rules}
-use lib.Dec.{T}
-use lib.ListN.{length, get_or, take, length-take}
-use lib.Seq.{ext_get_or, get_or-take}
+use lib.ListN.{get_or}
 use Rattle.merge.proofs.same_header.Given as goal
 
 abbrev pub invariant-loop-i : goal.invariant-loop-i

@@ -1,5 +1,4 @@
 -- `outline::act` meets its contract: the loss, then the change, then the pluck.
-use borrow.Author.Rules.{rules}
 use Rattle.outline.specs.Struct.{outline_of}
 use Rattle.outline.proofs.Parts.{stops-loss, stops-change, reaches_pluck}
 use Rattle.outline.proofs.act.Goals as goal

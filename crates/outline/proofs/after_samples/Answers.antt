@@ -1,5 +1,4 @@
 -- `outline::after_samples` meets its contract: none waits, all of the advance passes, or some of it.
-use borrow.Author.Rules.{rules}
 use native.Mathlib.Omega.{arith}
 use Rattle.outline.specs.Struct.{outline_of}
 use Rattle.outline.proofs.Many.{passed_none, passed-all, passed-some}

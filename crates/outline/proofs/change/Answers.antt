@@ -1,5 +1,4 @@
 -- `outline::change` meets its contract: no change, one that is refused, and one that is accepted.
-use borrow.Author.Rules.{rules}
 use mathlib.Core.Path.{◌≡◌, refl, sym, ap, ap₂, ◌∙◌}
 use Prim.Native.Nat.{ℕ, ◌+◌}
 use Rattle.outline.specs.Struct.{outline_of, after_change}

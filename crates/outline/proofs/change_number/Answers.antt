@@ -1,5 +1,4 @@
 -- `outline::change_number` meets its contract: four tests, one after the other.
-use borrow.Author.Rules.{rules}
 use mathlib.Core.Path.{refl, ap, ◌∙◌}
 use mathlib.Core.List.{[], ◌∷◌}
 use Prim.Native.Nat.{ℕ}

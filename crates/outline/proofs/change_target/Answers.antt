@@ -1,5 +1,4 @@
 -- `outline::change_target` meets its contract: each field, or what is in force.
-use borrow.Author.Rules.{rules}
 use mathlib.Core.Path.{ap, ◌∙◌}
 use mathlib.Core.Bool.{cond}
 use Prim.Native.Nat.{ℕ}

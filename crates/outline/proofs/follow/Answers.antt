@@ -1,9 +1,6 @@
 -- `outline::follow` meets its contract: the wait, and what the record sets after it.
-use borrow.Author.Rules.{rules}
-use mathlib.Core.Path.{sym, ap, subst, ◌∙◌}
-use Prim.Native.Nat.{ℕ}
-use Rattle.follow.specs.Follow.{value}
-use Rattle.outline.specs.Outline.{Outline, passed}
+use mathlib.Core.Path.{sym, subst, ◌∙◌}
+use Rattle.outline.specs.Outline.{Outline}
 use Rattle.outline.specs.Struct.{outline_of, Acts}
 use Rattle.outline.proofs.Calls.{record-result, record-from}
 use Rattle.outline.proofs.follow.Goals as goal

@@ -14,7 +14,6 @@ use Rattle.score.specs.Run.{opening, header_limits}
 use Rattle.score.specs.Played.{PlaysAll}
 use borrow.Author.Rules.{part_to_end}
 use Rattle.score.proofs.Header.{header-cut, header-whole, opening-is, run-refused, run-played}
-use borrow.Author.Rules.{rules}
 use Rattle.score.proofs.run.Goals as goal
 use Rattle.score.proofs.run.Lts as lts
 use Rattle.score.proofs.run.Reads as reads

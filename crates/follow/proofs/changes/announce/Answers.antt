@@ -6,7 +6,6 @@ use Rattle.rule.specs.Voice.{Tuning}
 use Rattle.voice.specs.Struct.{state_of}
 use Rattle.voice.proofs.Called.{on}
 use Rattle.follow.proofs.Following.{tuned, on_as}
-use borrow.Author.Rules.{rules}
 use Rattle.follow.proofs.changes.announce.Goals as goal
 
 pub returns : goal.returns

@@ -5,7 +5,6 @@ use Rattle.rule.specs.Calls.{instant}
 use Rattle.rule.specs.Voice.{Tuning}
 use Rattle.voice.specs.Struct.{state_of}
 use Rattle.follow.proofs.Following.{tuned, on_as}
-use borrow.Author.Rules.{rules}
 use Rattle.follow.proofs.changes.at_once.Goals as goal
 
 pub returns : goal.returns

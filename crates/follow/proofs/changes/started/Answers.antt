@@ -7,7 +7,6 @@ use Rattle.voice.specs.declared.Kind.TheVariants.{Announced}
 use Rattle.voice.specs.Struct.{state_of}
 use Rattle.voice.proofs.Called.{on}
 use Rattle.follow.proofs.Following.{tuned, on_as}
-use borrow.Author.Rules.{rules}
 use Rattle.follow.proofs.changes.started.Goals as goal
 
 pub returns : goal.returns

@@ -1,13 +1,12 @@
 -- `merge::fields::merge_record` meets its contract: number by number.
-use borrow.Author.Rules.{rules}
-use mathlib.Core.Path.{◌≡◌, refl, sym, ap, ap₂, ◌∙◌}
+use mathlib.Core.Path.{◌≡◌, ap, ap₂, ◌∙◌}
 use mathlib.Core.Bool.{cond}
-use mathlib.Core.List.{List, [], ◌∷◌}
+use mathlib.Core.List.{[], ◌∷◌}
 use Prim.Native.Nat.{ℕ}
 use lib.Dec.{eqb}
 use Rattle.record.specs.Record.{present}
-use Rattle.follow.specs.Follow.{value, stands, count_of}
-use Rattle.timeline.specs.Merged.{changes, map_for, merge_record}
+use Rattle.follow.specs.Follow.{value}
+use Rattle.timeline.specs.Merged.{merge_record}
 use Rattle.merge.proofs.fields.merge_record.Goals as goal
 
 same : {a b c d x y z i w G A S : ℕ} → a ≡ x → b ≡ y → c ≡ z → d ≡ i

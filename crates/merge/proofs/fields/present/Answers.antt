@@ -1,5 +1,4 @@
 -- `merge::fields::present` meets its contract.
-use borrow.Author.Rules.{rules}
 use mathlib.Core.Path.{◌≡◌, refl}
 use Prim.Native.Nat.{ℕ, zero, suc}
 use Rattle.record.specs.Record.{present}

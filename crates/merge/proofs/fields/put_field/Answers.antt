@@ -1,8 +1,7 @@
 -- `merge::fields::put_field` meets its contract: nothing, or two bytes.
-use borrow.Author.Rules.{rules}
 use mathlib.Core.Path.{◌≡◌, refl, sym, ap, ◌∙◌}
 use mathlib.Core.List.{List}
-use Prim.Native.Nat.{ℕ, zero, suc, ◌≤◌}
+use Prim.Native.Nat.{ℕ, zero, suc}
 use native.Mathlib.Omega.{arith}
 use Rattle.octets.specs.Octets.{bytes, laid}
 use Rattle.octets.proofs.Laws.{laid_nil}

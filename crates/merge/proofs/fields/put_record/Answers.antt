@@ -1,13 +1,12 @@
 -- `merge::fields::put_record` meets its contract: the bit map, and then field by field.
-use mathlib.Core.Path.{◌≡◌, sym, ap, ◌∙◌}
+use mathlib.Core.Path.{◌≡◌, ◌∙◌}
 use mathlib.Core.List.{List}
-use Prim.Native.Nat.{ℕ, ◌+◌, ◌-◌, ◌≤◌, ◌<◌}
+use Prim.Native.Nat.{ℕ, ◌+◌, ◌≤◌}
 use native.Mathlib.Omega.{arith}
-use borrow.Author.Rules.{rules}
-use lib.ListN.{length, get_or}
+use lib.ListN.{length}
 use Rattle.octets.specs.Octets.{laid}
 use Rattle.timeline.specs.Merged.{fields_from, record_bytes}
-use Rattle.merge.proofs.Putting.{Putting, begun, all-put, unit-small, field_fits, goes_on, put_map, record-length}
+use Rattle.merge.proofs.Putting.{begun, all-put, unit-small, field_fits, goes_on, put_map}
 use Rattle.merge.proofs.fields.put_record.Goals as goal
 use Rattle.merge.proofs.fields.put_record.Lts as lts
 use Rattle.merge.proofs.fields.put_record.Reads as reads

@@ -1,10 +1,7 @@
 -- `merge::header::header_number` meets its contract: five tests, one after the other.
-use borrow.Author.Rules.{rules}
-use mathlib.Core.Path.{◌≡◌, refl, sym, ◌∙◌}
+use mathlib.Core.Path.{refl, sym, ◌∙◌}
 use mathlib.Core.List.{[], ◌∷◌}
-use Prim.Native.Nat.{ℕ, ◌≤◌}
 use native.Mathlib.Omega.{arith}
-use Rattle.refusal.specs.Limits.{refusal}
 use Rattle.refusal.specs.Orders.{order, delay}
 use Rattle.refusal.proofs.Passed.{stops}
 use Rattle.refusal.proofs.Tests.{In, accepted}

@@ -1,5 +1,4 @@
 -- `merge::turn::later` meets its contract.
-use borrow.Author.Rules.{rules}
 use native.Mathlib.Omega.{arith}
 use Rattle.merge.proofs.turn.later.Goals as goal
 

@@ -1,15 +1,13 @@
 -- `merge::turn::step` meets its contract: the record is read, followed, and written out.
-use borrow.Author.Rules.{rules}
-use mathlib.Core.Path.{◌≡◌, refl, sym, ap, ap₂, subst, ◌∙◌}
+use mathlib.Core.Path.{◌≡◌, refl, ap, ap₂, subst, ◌∙◌}
 use mathlib.Core.List.{List}
-use Prim.Native.Nat.{ℕ, ◌+◌, ◌-◌, ◌≤◌}
+use Prim.Native.Nat.{ℕ, ◌+◌, ◌-◌}
 use native.Mathlib.Omega.{arith}
 use borrow.Author.Rules.{part_to_end}
 use lib.ListN.{length, drop}
 use Rattle.record.specs.Record.{fields, rest}
 use Rattle.follow.specs.Follow.{value}
 use Rattle.outline.specs.Struct.{outline_of, Follows}
-use Rattle.timeline.specs.Events.{Event}
 use Rattle.timeline.specs.Merged.{merge_record}
 use Rattle.merge.specs.Turn.{next}
 use Rattle.merge.proofs.Tail.{shorter, tail_at}

@@ -1,5 +1,4 @@
 -- `merge::turn::take_turn` meets its contract: a turn of the first score, or one of the second.
-use borrow.Author.Rules.{rules}
 use Rattle.merge.proofs.Taking.{choosable, first_fits, second_fits, took-first, took-second}
 use native.Mathlib.Omega.{arith}
 use Rattle.merge.proofs.turn.take_turn.Goals as goal

@@ -1,11 +1,9 @@
 -- `merge::turn::wait_left` meets its contract.
-use borrow.Author.Rules.{rules}
 use mathlib.Core.Path.{◌≡◌, ap, ◌∙◌}
 use mathlib.Core.List.{List}
 use Prim.Native.Nat.{ℕ, ◌-◌}
 use native.Mathlib.Omega.{arith}
 use borrow.Author.Rules.{part_to_end}
-use lib.ListN.{get_or}
 use Rattle.record.specs.Record.{fields}
 use Rattle.follow.specs.Follow.{value}
 use Rattle.merge.specs.Turn.{next}

@@ -1,13 +1,12 @@
 -- `merge::walk::walk` meets its contract: turn by turn, until no record is left.
-use mathlib.Core.Path.{◌≡◌, refl}
+use mathlib.Core.Path.{refl}
 use mathlib.Core.Bool.{Bool}
 use mathlib.Core.List.{List}
 use Prim.Native.Nat.{ℕ}
 use native.Mathlib.Omega.{arith}
-use borrow.Author.Rules.{rules}
 use Rattle.outline.specs.Outline.{Outline}
 use Rattle.outline.specs.Struct.{outline_of}
-use Rattle.merge.specs.Left.{bytes_left, Took}
+use Rattle.merge.specs.Left.{Took}
 use Rattle.merge.specs.Walk.{all_of}
 use Rattle.merge.proofs.Walking.{Walking, begun, on, all_walked, refused, too_long, walks_on}
 use Rattle.merge.proofs.walk.walk.Goals as goal
