@@ -4,7 +4,6 @@ mod Loop
 mod Waited
 mod Followed
 use mathlib.Core.Path.{refl, ◌∙◌}
-use mathlib.Core.Path.{sym, ap, subst}
 use native.Mathlib.Omega.{arith}
 use Rattle.voice.specs.Struct.{state_of, settled_of}
 use Rattle.voice.specs.declared.Kind.TheVariants.{Announced}
@@ -13,7 +12,7 @@ use Rattle.follow.proofs.Record.{does_as, does-still}
 use Rattle.score.proofs.Playing.{all-played, refused}
 use Rattle.score.proofs.play.Answers.Loop.{bytes, opened, lent, voice, left, index}
 use Rattle.score.proofs.play.Answers.Loop.{done, output, playing, some, number_is, room}
-use Rattle.score.proofs.play.Answers.Waited.{at, went, stretch, waited}
+use Rattle.score.proofs.play.Answers.Waited.{went, stretch, waited}
 use Rattle.score.proofs.play.Answers.Followed.{g, k, same, fewer, Follows, acts, announced, ends_with, plays-on}
 use Rattle.score.proofs.play.Goals as goal
 use Rattle.score.proofs.play.Goals.{then-announces+else-q-ne0, else-announces+then-sets+else-a-ne0, else-announces+else-sets}
