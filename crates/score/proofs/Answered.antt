@@ -14,7 +14,7 @@ use Rattle.score.specs.declared.Played.{Played}
 use Rattle.score.specs.Played.{Runs}
 use Rattle.score.specs.Reached.{size, waited, Reached, first, later}
 use Rattle.score.specs.Ends.{HeaderRefused, RecordRefused, LossRefused, ChangeRefused, PluckRefused}
-use Rattle.score.specs.Ends.{cut, order, long, delay, loss, advance, ill_formed_lem, full, loss_outside}
+use Rattle.score.specs.Ends.{cut, order, long, delay, loss, advance, ill_formed, full, loss_outside}
 use Rattle.score.specs.Ends.{waits}
 use Rattle.score.specs.Ends.{amplitude, count}
 use Rattle.score.specs.Ends.{Ends, unopened, record_refused, lossless, unchanged, unplucked, success}
@@ -90,7 +90,7 @@ module _ (s : List ℕ) (octets : (i : ℕ) → get_or s i 0 < 256) where
 
   part_possible : {t : List ℕ} {left n : ℕ} → RecordRefused t left n → Possible n
   part_possible (cut h) = omega arith
-  part_possible (ill_formed_lem h i) = omega arith
+  part_possible (ill_formed h i) = omega arith
   part_possible (full h f i) = omega arith
 
   change_possible : {t : List ℕ} {v : State} {n : ℕ} → ChangeRefused t v n → Possible n

@@ -22,7 +22,7 @@ use Rattle.score.specs.Reached.{Readable}
 use Rattle.score.specs.Reached.{SetsLoss, as_it_was, set, Given, present, absent, AsksChange}
 use Rattle.score.specs.Reached.{MakesChange, no_change, changed, MakesPluck, no_pluck, plucked}
 use Rattle.score.specs.Ends.{HeaderRefused, RecordRefused, LossRefused, ChangeRefused, PluckRefused}
-use Rattle.score.specs.Ends.{cut, order, long, delay, loss, advance, ill_formed_lem, full, loss_outside}
+use Rattle.score.specs.Ends.{cut, order, long, delay, loss, advance, ill_formed as not_formed, full, loss_outside}
 use Rattle.score.specs.Ends.{waits}
 use Rattle.score.specs.Ends.{amplitude, count}
 use Rattle.score.proofs.Parts.{manner}
@@ -81,7 +81,7 @@ module _ (t : List ℕ) where
   pub readable_or : (left : ℕ) → Readable t left ⊎ ((n : ℕ) × RecordRefused t left n)
   readable_or left =
       try (at_most (size t) (length t)) (λ f. (14, cut (omega arith))) λ w.
-      ⊎_elim (λ i. inr (15, ill_formed_lem w i))
+      ⊎_elim (λ i. inr (15, not_formed w i))
       (λ e. try (at_most (field t 0) left) (λ f. (16, full w e (omega arith))) λ h.
       inl (record { whole = w; formed = e; fits = h })) ill-or
 

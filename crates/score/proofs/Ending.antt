@@ -21,7 +21,7 @@ use Rattle.score.specs.Run.{opening, fits, play_limits, header_limits, all_recor
 use Rattle.score.specs.Played.{Plays, Runs}
 use Rattle.score.specs.Reached.{HeaderOpens, size, Readable, waited, SetsLoss, MakesChange}
 use Rattle.score.specs.Ends.{HeaderRefused, cut, order, long, delay, loss, advance}
-use Rattle.score.specs.Ends.{RecordRefused, ill_formed_lem, full, LossRefused, ChangeRefused}
+use Rattle.score.specs.Ends.{RecordRefused, ill_formed, full, LossRefused, ChangeRefused}
 use Rattle.score.specs.Ends.{PluckRefused}
 use Rattle.score.specs.Ends.{Ends, unopened, record_refused, lossless, unchanged, unplucked, success}
 use Rattle.score.proofs.Playing.{play-returned, all-played, refused}
@@ -87,7 +87,7 @@ module _ {s : List ℕ} {out : List ℤ} {k : ℕ} {v : State} {left at : ℕ} (
         (none, λ a. not-whole h a)),
     λ z. omega arith,
   )
-  number_is (ill_formed_lem h i) = (
+  number_is (ill_formed h i) = (
     sym (((play-returned t left).refused (whole t ∷ []) (fits (fields t) left ∷ []) (formed (map_of t)) refl).1 (
       more (kept_whole t h) none,
       λ a. ill (map_of t) i (omega (arith, a.most)),

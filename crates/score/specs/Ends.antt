@@ -24,7 +24,7 @@ pub data HeaderRefused (s : List ℕ) : ℕ → Type 0 where
 -- "for each record 14, 15, 16 the wait doesn't fit the output left"
 pub data RecordRefused (t : List ℕ) (left : ℕ) : ℕ → Type 0 where
   cut : length t < size t → RecordRefused t left 14
-  ill_formed_lem : size t ≤ length t → IllFormed (map_of t) → RecordRefused t left 15
+  ill_formed : size t ≤ length t → IllFormed (map_of t) → RecordRefused t left 15
   full : size t ≤ length t → (IllFormed (map_of t) → ⊥) → left < field t 0 → RecordRefused t left 16
 
 -- "then those of change and pluck", and of the loss
