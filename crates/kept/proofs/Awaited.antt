@@ -1,9 +1,9 @@
 -- Each sample brings a waiting change one nearer, and a commit is accepted when none is left.
-use mathlib.Core.Path.{◌≡◌, refl, sym, ap, subst, ◌∙◌}
+use mathlib.Core.Path.{◌≡◌, refl, sym, ap, ◌∙◌}
 use mathlib.Core.Bool.{Bool, true, false, cond, true≢false}
 use mathlib.Core.List.{List, [], ◌∷◌}
 use mathlib.Core.Option.{Option, none, some}
-use Prim.Native.Nat.{ℕ, suc, ◌-◌, ◌≤◌, ◌<◌, min}
+use Prim.Native.Nat.{ℕ, ◌-◌, ◌<◌}
 use native.Mathlib.Omega.{arith}
 use borrow.Author.Tests.{eqb-true}
 use lib.IntN.{ℤ}
@@ -12,14 +12,12 @@ use Rattle.rule.specs.Voice.{Waiting, Kind, announced, asked, Voice}
 use Rattle.rule.specs.Voice.{heard, fed_too, commits, tuned, settled, stepped}
 use Rattle.rule.specs.Calls.{commit, number}
 use Rattle.rule.specs.State.{State, back, step, block_after}
-use Rattle.rule.specs.Refusals.{Asked}
 use Rattle.rule.proofs.Refusals.{refuses}
 use Rattle.rule.proofs.Keeps.{none-some, same_some}
-use Rattle.voice.specs.declared.Head.{Head}
 use Rattle.voice.specs.declared.Waiting.{Waiting as Held}
 use Rattle.voice.specs.declared.Waiting.TheVariants.{Idle, Prepared}
-use Rattle.voice.specs.Struct.{waiting_of, voice_of}
-use Rattle.voice.specs.Valid.{Fit, Waiting-valid}
+use Rattle.voice.specs.Struct.{waiting_of}
+use Rattle.voice.specs.Valid.{Waiting-valid}
 use Rattle.kept.specs.Awaited.{left, awaited, Awaits}
 
 -- ---- samples

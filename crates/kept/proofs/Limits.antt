@@ -1,9 +1,8 @@
 -- The line of a voice holds samples alone, wherever its ring begins.
-use mathlib.Core.Path.{◌≡◌, refl, sym, ap, subst, ◌∙◌}
+use mathlib.Core.Path.{sym, subst}
 use mathlib.Core.Logic.{◌↔◌}
 use mathlib.Core.List.{List, [], ◌∷◌, ◌++◌, reverse, reverse-cons, reverse-reverse}
 use Prim.Native.Nat.{ℕ, zero, suc, ◌≤◌}
-use native.Mathlib.Omega.{arith}
 use lib.IntN.{ℤ, pos, nat_abs}
 use lib.ListN.{take, drop, get_or, take-append-drop}
 use Rattle.integer.specs.Rounding.{M}
@@ -12,7 +11,6 @@ use Rattle.allpass.specs.Bounds.{Within, none, more}
 use Rattle.line.specs.Ring.{ring}
 use Rattle.rule.proofs.Read.{get_d_within}
 use Rattle.rule.proofs.Refusals.{quiet, unquiet}
-use Rattle.voice.specs.declared.Head.{Head}
 use Rattle.packed.proofs.Limits.{bounds}
 use Rattle.kept.specs.Limits.{Voices}
 

@@ -1,17 +1,15 @@
 -- A sequence of calls that begins with an opening is a chain of crate list, one call longer at its end each
 -- time.
-use mathlib.Core.Path.{◌≡◌, refl, sym, ap, subst, ◌∙◌}
+use mathlib.Core.Path.{◌≡◌, sym, ap, subst}
 use mathlib.Core.List.{List, [], ◌∷◌, ◌++◌, append-nil, append_assoc}
 use Prim.Native.Nat.{ℕ}
 use lib.IntN.{ℤ}
 use lib.ListN.{length}
 use Rattle.rule.specs.Calls.{Call, Opening, block}
 use Rattle.voice.specs.declared.Head.{Head}
-use Rattle.voice.specs.declared.Answer.{Answer}
 use Rattle.open.specs.declared.Opened.{Opened}
 use Rattle.open.specs.Opened.{Opens}
 use Rattle.packed.specs.Words.{head_of}
-use Rattle.list.specs.Chain as Chain
 use Rattle.list.specs.Chain.{Chain, heard, Chained}
 use Rattle.list.proofs.Chain.{chained}
 use Rattle.kept.specs.Lent.{answer_of, opened_of}

@@ -1,16 +1,14 @@
 -- Where the numbers of a stored form stand, as the code looks for them.
 use mathlib.Core.Path.{◌≡◌, refl, sym, ap, subst, ◌∙◌}
-use mathlib.Core.Bool.{Bool, true, false, cond}
 use mathlib.Core.List.{List, [], ◌∷◌}
-use Prim.Native.Nat.{ℕ, zero, suc, ◌+◌, ◌*◌, ◌/◌, ◌%◌, ◌^◌, ◌≤◌, ◌<◌}
+use Prim.Native.Nat.{ℕ, ◌+◌, ◌*◌, ◌/◌, ◌%◌, ◌^◌}
 use native.Mathlib.Omega.{arith}
-use lib.Dec.{eqb}
 use lib.ListN.{take, drop, get_or}
-use borrow.Author.Tests.{eqb-true, eq-eqb, ne_eqb}
+use borrow.Author.Tests.{eq-eqb, ne_eqb}
 use Rattle.octets.specs.Octets.{number}
 use Rattle.form.specs.Numbers.{Numbers}
 use Rattle.form.specs.Parts.{value, held_in}
-use Rattle.form.specs.Refusals.{sizes, ahead, found, found_z, Reads}
+use Rattle.form.specs.Refusals.{sizes, ahead, found, Reads}
 use Rattle.form.proofs.Refusals.{refuses}
 use Rattle.load.specs.declared.words.Offsets.{Offsets}
 use Rattle.load.specs.declared.words.Change.{Change as ChangeWords}

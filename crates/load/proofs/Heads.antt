@@ -1,6 +1,6 @@
 -- The head that is made of a stored voice's numbers is valid, and is that voice.
-use mathlib.Core.Path.{◌≡◌, refl, sym, ap, ◌∙◌}
-use mathlib.Core.List.{List, [], ◌∷◌}
+use mathlib.Core.Path.{◌≡◌, refl, ap}
+use mathlib.Core.List.{List}
 use mathlib.Core.Option.{some}
 use Prim.Native.Nat.{ℕ, zero, suc, ◌*◌, ◌≤◌, ◌<◌}
 use native.Mathlib.Omega.{arith}
@@ -16,9 +16,9 @@ use Rattle.thiran.specs.Answers.{padded}
 use Rattle.rule.specs.Voice.{Tuning, tuning, announced, asked}
 use Rattle.form.specs.Numbers.{waiting_of as waits, state_of as state_of_numbers}
 use Rattle.form.specs.Parts.{value}
-use Rattle.form.specs.Refusals.{FilterIn, ChangeIn}
-use Rattle.voice.specs.Struct.{filter_of, tuning_of, kind_of, prepared_of, waiting_of, pluck_of, voice_of}
-use Rattle.voice.specs.Valid.{Tuned, Preparing}
+use Rattle.form.specs.Refusals.{FilterIn}
+use Rattle.voice.specs.Struct.{tuning_of, prepared_of, waiting_of, pluck_of, voice_of}
+use Rattle.voice.specs.Valid.{Preparing}
 use Rattle.voice.specs.declared.Filter.{Filter}
 use Rattle.voice.specs.declared.Head.{Head}
 use Rattle.voice.specs.declared.Kind.TheVariants.{Announced, Asked}

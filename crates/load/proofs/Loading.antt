@@ -1,31 +1,29 @@
 -- What the tests of the code find out is what the definition of loading asks, and what is laid and built is the voice.
 use mathlib.Core.Path.{◌≡◌, refl, sym, ap, subst, ◌∙◌}
 use mathlib.Core.Logic.{◌⊎◌, inl, inr}
-use mathlib.Core.List.{List, [], ◌∷◌, ◌++◌, reverse}
-use Prim.Native.Nat.{ℕ, zero, suc, ◌+◌, ◌*◌, ◌/◌, ◌%◌, ◌^◌, ◌≤◌, ◌<◌}
+use mathlib.Core.List.{List, [], ◌∷◌, reverse}
+use Prim.Native.Nat.{ℕ, zero, suc, ◌+◌, ◌*◌, ◌/◌, ◌%◌, ◌≤◌, ◌<◌}
 use native.Mathlib.Omega.{arith}
 use lib.IntN.{ℤ, pos, nat_abs}
-use lib.ListN.{length, take, drop, get_or}
+use lib.ListN.{length, get_or}
 use lib.Seq.{ext_get_or}
-use Rattle.integer.specs.Rounding.{M}
 use Rattle.refusal.specs.Limits.{refusal}
 use Rattle.refusal.specs.Orders.{order, delay}
 use Rattle.refusal.proofs.Tests.{accepted}
 use Rattle.rule.specs.Tests.{long, lossy, early}
 use Rattle.allpass.specs.Bounds.{Within, none, more}
 use Rattle.line.specs.Ring.{ring}
-use Rattle.rule.specs.Calls.{Opening, open_limits}
+use Rattle.rule.specs.Calls.{open_limits}
 use Rattle.rule.specs.State.{State, fresh}
 use Rattle.rule.proofs.Read.{get_d_within}
-use Rattle.form.specs.Numbers.{Numbers, state_of as state_of_numbers, refused}
+use Rattle.form.specs.Numbers.{Numbers, state_of as state_of_numbers}
 use Rattle.form.specs.Parts.{value, held_in}
-use Rattle.form.specs.Loads.{loads, Panel, panel, shown}
-use Rattle.form.specs.Refusals.{sizes, ahead, form_size, found, InLimits}
+use Rattle.form.specs.Loads.{loads, panel, shown}
+use Rattle.form.specs.Refusals.{form_size, InLimits}
 use Rattle.form.proofs.Refusals.{refuses}
 use Rattle.form.proofs.Theorems as Theorems
 use Rattle.form.proofs.Limits.{turned_within}
 use Rattle.voice.specs.Struct.{state_of, voice_of}
-use Rattle.voice.specs.Valid.{Fit, Valid}
 use Rattle.voice.specs.declared.Head.{Head}
 use Rattle.load.specs.declared.words.Offsets.{Offsets}
 use Rattle.load.specs.declared.words.Words.{Words}

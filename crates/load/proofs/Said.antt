@@ -1,14 +1,14 @@
 -- Laws of the tests of a stored voice's numbers.
 use mathlib.Core.Path.{◌≡◌, refl, sym, ap, ◌∙◌}
-use mathlib.Core.Bool.{Bool, true, false, not}
-use mathlib.Core.List.{List, [], ◌∷◌}
+use mathlib.Core.Bool.{Bool, true, false}
+use mathlib.Core.List.{[], ◌∷◌}
 use Prim.Native.Nat.{ℕ, zero, suc, ◌+◌, ◌-◌, ◌^◌, ◌≤◌, ◌<◌}
 use native.Mathlib.Omega.{arith}
 use lib.IntN.{ℤ, pos, negsuc, nat_abs}
 use borrow.Author.Tests.{lt-ltb, le-ltb, le-leb, ltb-true, leb-true, eqb-true, eq-eqb}
 use native.Mathlib.Decide.{dec_lt}
 use lib.Dec.{eqb, ltb, leb}
-use Rattle.refusal.specs.Limits.{Between, refusal}
+use Rattle.refusal.specs.Limits.{refusal}
 use Rattle.refusal.specs.Orders.{order, delay}
 use Rattle.refusal.proofs.Ranges.{in_range, ordered, delayed}
 use Rattle.refusal.proofs.Tests.{accepted}

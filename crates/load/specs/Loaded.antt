@@ -1,8 +1,8 @@
 -- What `load` and `panel` return and leave: document 02, L10. Definitions alone.
 use Rattle.std.specs.Prelude.{◌≡◌, List, ℕ, ℤ}
-use Rattle.form.specs.Numbers.{Numbers, state_of as state_of_numbers}
+use Rattle.form.specs.Numbers.{state_of as state_of_numbers}
 use Rattle.form.specs.Loads.{loads, panel}
-use Rattle.voice.specs.Struct.{state_of, filter_of, tuning_of, voice_of}
+use Rattle.voice.specs.Struct.{state_of, tuning_of, voice_of}
 use Rattle.voice.specs.Valid.{Tuned, Fit, Valid}
 use Rattle.rule.specs.Voice.{Tuning}
 use Rattle.allpass.specs.declared.State.{State as Three}

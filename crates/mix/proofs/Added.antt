@@ -1,5 +1,5 @@
 -- Laws of sums: how long and how loud they are, one string more, and their clip.
-use mathlib.Core.Path.{◌≡◌, refl, sym, ap, ap₂, ◌∙◌}
+use mathlib.Core.Path.{◌≡◌, refl, ap, ap₂}
 use mathlib.Core.List.{List, [], ◌∷◌, map}
 use Prim.Native.Nat.{ℕ, zero, suc, ◌+◌, ◌*◌, ◌≤◌, ◌<◌}
 use native.Mathlib.Omega.{arith}
@@ -12,7 +12,7 @@ use Rattle.integer.proofs.Ring.{abs-+}
 use Rattle.samples.specs.Samples.{loudest}
 use Rattle.allpass.proofs.Bounds.{out_within}
 use Rattle.rule.specs.Voice.{A, output}
-use Rattle.rule.specs.State.{State, back, step, sounds, block_after, block_out}
+use Rattle.rule.specs.State.{State, back, step, sounds, block_out}
 use Rattle.instrument.specs.Strings.{Strings, total, mixed}
 use Rattle.mix.specs.Sums.{plus, sums}
 

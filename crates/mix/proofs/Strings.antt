@@ -1,7 +1,7 @@
 -- Six strings of which the first k have rendered an input: the sums, and the rows that are left.
-use mathlib.Core.Path.{◌≡◌, refl, sym, ap, ap₂, ◌∙◌}
+use mathlib.Core.Path.{◌≡◌, ap, ap₂, ◌∙◌}
 use mathlib.Core.List.{List, []}
-use Prim.Native.Nat.{ℕ, suc, ◌+◌, ◌*◌, ◌≤◌, ◌<◌}
+use Prim.Native.Nat.{ℕ, ◌+◌, ◌*◌, ◌≤◌, ◌<◌}
 use native.Mathlib.Omega.{arith}
 use native.Mathlib.Decide.{ℕ_discrete}
 use lib.IntN.{ℤ}
@@ -17,7 +17,7 @@ use Rattle.instrument.specs.Strings.{Strings}
 use Rattle.strings.specs.Rows.{strings_of, Voices}
 use Rattle.strings.proofs.Rows.{same_row, other_row, voices}
 use Rattle.mix.specs.Sums.{plus, sums}
-use Rattle.mix.specs.Rendered.{After, Rendered, Adds, SumsUp}
+use Rattle.mix.specs.Rendered.{Rendered, Adds, SumsUp}
 use Rattle.mix.proofs.Added.{sums_first, sums-more, sums-quiet, length-sums}
 
 -- the rows hs and ls, of which the first k have taken the input xs, began as the strings s; ys are their sums

@@ -5,7 +5,7 @@ use mathlib.Core.List.{List, [], ◌∷◌, ◌++◌, append_assoc, append-nil}
 use Prim.Native.Nat.{ℕ, zero, suc, ◌+◌, ◌-◌, ◌≤◌, ◌<◌}
 use native.Mathlib.Omega.{arith}
 use lib.IntN.{ℤ, ◌+ℤ◌}
-use lib.ListN.{length, take, drop, take-append-drop, length-append, length-drop}
+use lib.ListN.{length, take, drop, take-append-drop, length-append}
 use lib.Seq.{take_at, take_all, drop-length, length-take-le}
 use borrow.Rule.Slice.PartMut.{put_mid, mid_of, Post-is, mid_len, same_len_mid, drop_put}
 use Rattle.integer.specs.Rounding.{M, clip}

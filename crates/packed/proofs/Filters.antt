@@ -4,17 +4,14 @@ use Prim.Native.Nat.{ℕ, ◌≤◌, ◌^◌}
 use native.Mathlib.Omega.{arith}
 use lib.IntN.{nat_abs}
 use Rattle.thiran.specs.Answers.{padded}
-use Rattle.thiran.specs.Coefficients.{coefficients}
 use Rattle.thiran.specs.declared.formula.Coefficients.{Coefficients}
 use Rattle.thiran.proofs.Lists.{coefficient-small}
 use Rattle.allpass.specs.Stored.{stored}
 use Rattle.allpass.specs.declared.State.{State}
 use Rattle.voice.specs.declared.Filter.{Filter}
 use Rattle.voice.specs.declared.Kind.{Kind}
-use Rattle.voice.specs.declared.Waiting.{Waiting}
 use Rattle.voice.specs.declared.Kind.TheVariants.{Announced, Asked}
 use Rattle.voice.specs.declared.Waiting.TheVariants.{Prepared}
-use Rattle.voice.specs.Struct.{filter_of}
 use Rattle.voice.specs.Valid.{Tuned}
 use Rattle.voice.proofs.Within.{read-within}
 use Rattle.packed.specs.Words.{waiting_from}

@@ -1,14 +1,11 @@
 -- The limits of a head's parts are the voice's invariant, either way.
-use mathlib.Core.Path.{◌≡◌, refl, sym, ap, ◌∙◌}
-use mathlib.Core.Bool.{Bool, true, false, cond}
-use mathlib.Core.List.{List, [], ◌∷◌}
-use mathlib.Core.Logic.{◌↔◌}
+use mathlib.Core.Path.{◌≡◌, refl, ap, ◌∙◌}
+use mathlib.Core.List.{[], ◌∷◌}
 use Prim.Native.Nat.{ℕ, zero, suc, ◌*◌, ◌≤◌, ◌<◌}
 use native.Mathlib.Omega.{arith}
 use lib.IntN.{ℤ, pos, nat_abs}
 use lib.ListN.{take, get_or}
 use Rattle.integer.specs.Rounding.{M}
-use Rattle.integer.proofs.View.{absv, onev, Zs}
 use Rattle.refusal.specs.Ranges.{InRange, order_1, order_2, order_3}
 use Rattle.refusal.proofs.Ranges.{ranges}
 use Rattle.allpass.specs.Bounds.{Within, none, more}
@@ -19,11 +16,9 @@ use Rattle.voice.specs.declared.Filter.{Filter}
 use Rattle.voice.specs.declared.Kind.TheVariants.{Announced, Asked}
 use Rattle.voice.specs.declared.Waiting.{Waiting}
 use Rattle.voice.specs.declared.Waiting.TheVariants.{Idle, Prepared}
-use Rattle.voice.specs.declared.Pluck.{Pluck}
-use Rattle.voice.specs.declared.Head.{Head}
-use Rattle.voice.specs.Valid.{Tuned, Waiting-valid, Plucked, Fit}
+use Rattle.voice.specs.Valid.{Tuned, Waiting-valid}
 use Rattle.voice.proofs.Within.{read-within}
-use Rattle.packed.specs.Limits.{FilterLimits, WaitingLimits, PluckLimits, Limits, Bounds}
+use Rattle.packed.specs.Limits.{FilterLimits, WaitingLimits, Bounds}
 
 -- ---- a state of order N: 0 past the order
 put : (a b c x y : ℤ) → b ≡ x → c ≡ y

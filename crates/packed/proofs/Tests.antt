@@ -1,13 +1,13 @@
 -- What each test of the words says of the number, the filter and the change that they are.
 use mathlib.Core.Path.{◌≡◌, refl, sym, ap, subst, ◌∙◌}
 use mathlib.Core.Bool.{Bool, true, false, cond}
-use mathlib.Core.List.{List, [], ◌∷◌}
+use mathlib.Core.List.{[], ◌∷◌}
 use mathlib.Core.Logic.{◌↔◌}
 use Prim.Native.Nat.{ℕ, ◌+◌, ◌-◌, ◌≤◌, ◌<◌, ◌^◌}
 use native.Mathlib.Omega.{arith}
 use native.Mathlib.Decide.{ℕ_discrete}
 use borrow.Author.Tests.{eq-eqb, ne_eqb, leb-true, leb-false}
-use lib.Dec.{eqb, leb}
+use lib.Dec.{leb}
 use lib.IntN.{ℤ, pos, nat_abs}
 use Rattle.integer.proofs.View.{absv, onev, near, -v, Zs}
 use Rattle.refusal.specs.Limits.{Between, refusal}
@@ -21,9 +21,7 @@ use Rattle.thiran.specs.declared.formula.Coefficients.{Coefficients}
 use Rattle.thiran.proofs.Lists.{coefficient-small}
 use Rattle.rule.specs.Tests.{long, askings}
 use Rattle.voice.specs.declared.Filter.{Filter}
-use Rattle.voice.specs.declared.Kind.{Kind}
 use Rattle.voice.specs.declared.Kind.TheVariants.{Announced, Asked}
-use Rattle.voice.specs.declared.Waiting.{Waiting}
 use Rattle.voice.specs.declared.Waiting.TheVariants.{Prepared}
 use Rattle.voice.specs.Valid.{Tuned, Waiting-valid}
 use Rattle.signs.specs.Signs.{signed_of}

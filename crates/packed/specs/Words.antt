@@ -2,7 +2,6 @@
 -- the voice's invariant, `Fit` and `Valid` of crate voice.
 use Rattle.std.specs.Prelude.{cond, List, ℕ, ◌+◌, eqb, get_or}
 use Rattle.signs.specs.Signs.{signed_of}
-use Rattle.integer.specs.declared.Value.{Value}
 use Rattle.voice.specs.declared.Filter.{Filter}
 use Rattle.voice.specs.declared.Waiting.{Waiting}
 use Rattle.voice.specs.declared.Kind.TheVariants.{Announced, Asked}

@@ -2,22 +2,17 @@
 use mathlib.Core.Path.{◌≡◌, sym, ap, ◌∙◌}
 use mathlib.Core.List.{List}
 use Prim.Native.Nat.{ℕ}
-use lib.IntN.{ℤ}
-use lib.ListN.{length, take}
+use lib.ListN.{take}
 use Rattle.rule.specs.State.{State}
 use Rattle.form.specs.Parts.{stored}
-use Rattle.form.specs.Loads.{Loaded, loads, store_number}
+use Rattle.form.specs.Loads.{Loaded, loads}
 use Rattle.form.proofs.Refusals.{refuses}
 use Rattle.form.proofs.Theorems.{round_trip}
-use Rattle.voice.specs.declared.Head.{Head}
-use Rattle.voice.specs.declared.Answer.{Answer}
 use Rattle.voice.specs.Struct.{state_of}
-use Rattle.voice.specs.Valid.{Valid}
 use Rattle.store.specs.declared.Kept.{Kept}
 use Rattle.store.specs.Stores.{Stores}
 use Rattle.store.proofs.Heads.{storable}
-use Rattle.load.specs.Loaded.{Loads}
-use Rattle.snapshot.specs.Resumes.{Same, Resumes}
+use Rattle.snapshot.specs.Resumes.{Resumes}
 
 -- the bytes that were filled are the stored voice
 filled : (v : State) (old new : List ℕ) (r : Kept) → Stores v old new r → r.refusal ≡ 0

@@ -13,7 +13,7 @@ use Rattle.allpass.specs.Stored.{stored, entries}
 use Rattle.allpass.specs.declared.State.{State}
 use Rattle.allpass.proofs.Stored.{length-held}
 use Rattle.line.specs.Ring.{ring}
-use Rattle.form.specs.Numbers.{Change, numbers_of, change_of}
+use Rattle.form.specs.Numbers.{Change, change_of}
 use Rattle.form.specs.Parts.{word, parts}
 use Rattle.form.proofs.Limits.{fits}
 use mathlib.Core.Option.{some}
@@ -26,8 +26,6 @@ use Rattle.voice.specs.Struct.{tuning_of, filter_of, prepared_of, waiting_of, st
 use Rattle.voice.specs.Valid.{Tuned, Waiting-valid, Fit, Valid}
 use Rattle.voice.specs.declared.Filter.{Filter}
 use Rattle.voice.specs.declared.Head.{Head}
-use Rattle.voice.specs.declared.Kind.{Kind}
-use Rattle.voice.specs.declared.Kind.TheVariants.{Announced, Asked}
 use Rattle.voice.specs.declared.Waiting.{Waiting}
 use Rattle.voice.specs.declared.Waiting.TheVariants.{Idle, Prepared}
 use Rattle.store.specs.declared.Words.{Words}

@@ -17,7 +17,7 @@ use Rattle.line.specs.Ring.{ring}
 use Rattle.rule.specs.State.{silence}
 use Rattle.rule.proofs.Read.{get_d_within}
 use Rattle.octets.specs.Octets.{number, bytes, laid}
-use Rattle.octets.proofs.Laws.{laid_nil, laid_next, laid-length, bytes-length, number-bytes}
+use Rattle.octets.proofs.Laws.{laid_nil, laid_next, laid-length, number-bytes}
 use Rattle.octets.proofs.Theorems.{number_back}
 use Rattle.form.specs.Parts.{encoded, packed, size, map_byte, word, same, parts, chosen, refused_parts}
 use Rattle.form.proofs.Packing.{encoded-length}

@@ -1,15 +1,15 @@
 -- The bits, the length and the bytes that `store` works out are those of the voice's form.
 
 use mathlib.Core.Path.{◌≡◌, refl, sym, ap, subst, ◌∙◌}
-use mathlib.Core.Bool.{Bool, true, false, not, cond}
+use mathlib.Core.Bool.{Bool, true, false, not}
 use mathlib.Core.List.{List, [], ◌∷◌, ◌++◌, map, reverse, reverse-reverse}
 use Prim.Native.Nat.{ℕ, ◌+◌, ◌%◌, ◌≤◌, ◌<◌}
 use native.Mathlib.Omega.{arith}
 use native.Mathlib.Decide.{dec_lt}
-use lib.Dec.{eqb, ltb}
+use lib.Dec.{ltb}
 use lib.IntN.{ℤ, pos}
 use lib.ListN.{length, take, drop, replicate, take-append-drop}
-use borrow.Author.Tests.{lt-ltb, le-ltb, eq-eqb, ne_eqb}
+use borrow.Author.Tests.{lt-ltb, le-ltb, eq-eqb}
 use Rattle.integer.specs.Rounding.{M}
 use Rattle.samples.specs.Samples.{loudest, over}
 use Rattle.samples.proofs.Samples as Samples
@@ -17,7 +17,7 @@ use Rattle.allpass.specs.Bounds.{Within, none, more}
 use Rattle.allpass.proofs.Bounds.{rest-within}
 use Rattle.line.specs.Ring.{ring}
 use Rattle.octets.specs.Octets.{bytes, laid}
-use Rattle.octets.proofs.Laws.{laid_next, laid-length}
+use Rattle.octets.proofs.Laws.{laid_next}
 use Rattle.rule.specs.State.{State, silence}
 use Rattle.form.specs.Numbers.{numbers_of}
 use Rattle.form.specs.Parts.{word, value, same, parts, refused_parts, map_byte, packed, size, chosen, stored}

@@ -1,6 +1,5 @@
 -- `frames::frame` meets its contract: refused, nothing is changed; else both sides.
 use mathlib.Core.Path.{◌≡◌, sym, ap, ◌∙◌}
-use borrow.Author.Rules.{rules}
 use lib.Ieee.{of_bits}
 use mir.Syntax.{w64}
 use mir.Val.{to_z, of_z}

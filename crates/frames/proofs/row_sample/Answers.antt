@@ -1,5 +1,4 @@
 -- `frames::row_sample` meets its contract: one step of the voice that the words and the line are.
-use borrow.Author.Rules.{rules}
 use Rattle.frames.proofs.row_sample.Goals as goal
 
 pub step-t-requires : goal.step-t-requires

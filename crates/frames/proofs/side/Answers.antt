@@ -1,7 +1,6 @@
 -- `frames::side` meets its contract: three strings, one after the other.
 use mathlib.Core.Path.{◌∙◌}
 use native.Mathlib.Omega.{arith}
-use borrow.Author.Rules.{rules}
 use Rattle.frames.proofs.Strings.{sum_is, three_are}
 use Rattle.frames.proofs.side.Goals as goal
 

@@ -1,5 +1,4 @@
 -- `frames::string_sample` meets its contract: the step in the string's row.
-use borrow.Author.Rules.{rules}
 use Rattle.frames.proofs.Strings.{one-string}
 use Rattle.frames.proofs.string_sample.Goals as goal
 

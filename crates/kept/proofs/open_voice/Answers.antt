@@ -1,5 +1,4 @@
 -- `kept::open_voice` meets its contract: the voice that Open returned is in the words and the line.
-use borrow.Author.Rules.{rules}
 use Rattle.kept.proofs.open_voice.Goals as goal
 
 pub returns : goal.returns

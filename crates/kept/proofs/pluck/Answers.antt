@@ -1,5 +1,4 @@
 -- `kept::pluck` meets its contract: the call by value on the head that the words are.
-use borrow.Author.Rules.{rules}
 use Rattle.kept.proofs.pluck.Goals as goal
 
 pub pluck-a-requires : goal.pluck-a-requires

@@ -1,5 +1,4 @@
 -- `kept::set_loss` meets its contract: the call by value on the head that the words are.
-use borrow.Author.Rules.{rules}
 use Rattle.kept.proofs.set_loss.Goals as goal
 
 pub loss-a-requires : goal.loss-a-requires

@@ -1,14 +1,9 @@
-use Rattle.load.proofs.Line.{Laid, next-laid, word_read}
+use Rattle.load.proofs.Line.{next-laid, word_read}
 use Rattle.form.specs.Parts.{value}
-use lib.ListN.{length, length-set}
+use lib.ListN.{length-set}
 use native.Mathlib.Omega.{arith}
-use Prim.Native.Nat.{◌≤◌, ◌-◌, ◌+◌, ◌*◌}
-use mathlib.Core.Path.{◌≡◌, sym, ◌∙◌}
-use borrow.Author.Rules.{rules}
-use Rattle.load.proofs.fill.Reads as reads
-use Rattle.load.proofs.fill.Lts as lts
-use Rattle.load.proofs.write.Reads as write-reads
-use Rattle.octets.proofs.four.Reads as four-reads
+use Prim.Native.Nat.{◌+◌, ◌*◌}
+use mathlib.Core.Path.{sym, ◌∙◌}
 use Rattle.load.proofs.fill.Goals as goal
 
 -- src/lib.rt:73:5

@@ -4,9 +4,6 @@ use Rattle.load.specs.Words.{read}
 use Rattle.form.specs.Parts.{value}
 use Prim.Native.Nat.{ℕ, ◌+◌, ◌*◌}
 use mathlib.Core.Path.{refl, sym, ap, ◌∙◌}
-use Rattle.load.proofs.lay.Reads as reads
-use Rattle.load.proofs.lay.Lts as lts
-use Rattle.load.proofs.fill.Reads as fill-reads
 use Rattle.load.proofs.lay.Goals as goal
 
 -- src/lib.rt:86:9

@@ -2,16 +2,6 @@ use Rattle.load.proofs.Loading.{nothing-loaded, passed, line-room, line_at, head
 use Rattle.voice.specs.Struct.{state_of}
 use Rattle.form.specs.Parts.{held_in}
 use mathlib.Core.Path.{sym, ◌∙◌}
-use borrow.Author.Rules.{rules}
-use Rattle.load.proofs.load.Reads as reads
-use Rattle.load.proofs.load.Lts as lts
-use Rattle.load.proofs.build.head_of.Reads as head-of-reads
-use Rattle.load.proofs.lay.Reads as lay-reads
-use Rattle.load.proofs.tested.Reads as tested_reads
-use Rattle.load.proofs.words.map_of.Reads as map-of-reads
-use Rattle.load.proofs.words.places.Reads as places-reads
-use Rattle.load.proofs.words.words_of.Reads as words-of-reads
-use Rattle.open.proofs.open.Reads as open-reads
 use Rattle.load.proofs.load.Goals as goal
 
 -- src/lib.rt:102:9

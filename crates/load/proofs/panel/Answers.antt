@@ -3,12 +3,6 @@ use Rattle.form.proofs.Theorems.{shows}
 use Rattle.form.specs.Loads.{Panel}
 use Rattle.form.specs.Numbers.{Numbers}
 use mathlib.Core.Path.{sym, ap, ◌∙◌}
-use borrow.Author.Rules.{rules}
-use Rattle.load.proofs.panel.Reads as reads
-use Rattle.load.proofs.panel.Lts as lts
-use Rattle.load.proofs.tested.Reads as tested_reads
-use Rattle.load.proofs.words.map_of.Reads as map-of-reads
-use Rattle.load.proofs.words.words_of.Reads as words-of-reads
 use Rattle.load.proofs.panel.Goals as goal
 
 -- src/lib.rt:123:9

@@ -1,14 +1,6 @@
 use Rattle.load.proofs.Loading.{by_22, by_23, by_0, head-limits, limits-head, line-room, line-limits, limits-line}
 use Rattle.load.proofs.Said.{granted, refuted}
 use Rattle.form.specs.Parts.{held_in}
-use borrow.Author.Rules.{rules}
-use Rattle.load.proofs.tested.Reads as reads
-use Rattle.load.proofs.tested.Lts as lts
-use Rattle.load.proofs.limits.head_in.Reads as head-in-reads
-use Rattle.load.proofs.limits.line_in.Reads as line-in-reads
-use Rattle.load.proofs.words.map_of.Reads as map-of-reads
-use Rattle.load.proofs.words.places.Reads as places-reads
-use Rattle.load.proofs.words.words_of.Reads as words-of-reads
 use Rattle.load.proofs.tested.Goals as goal
 
 -- src/lib.rt:45:9

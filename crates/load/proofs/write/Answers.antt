@@ -5,10 +5,6 @@ use mir.Val.{SFits, to_z, of_z}
 use mir.Facts.{to_z-of_z}
 use Rattle.integer.proofs.View.{read}
 use Rattle.load.proofs.Line.{value-fits}
-use borrow.Author.Rules.{rules}
-use Rattle.load.proofs.write.Reads as reads
-use Rattle.load.proofs.write.Lts as lts
-use Rattle.octets.proofs.signed.Reads as signed-Reads
 use Rattle.load.proofs.write.Goals as goal
 
 module _ (c : goal.After-struct_told-1) where

@@ -1,7 +1,6 @@
 -- `mix::play` meets its contract: a mix of zeros is accepted.
-use mathlib.Core.Path.{◌≡◌, sym, subst}
+use mathlib.Core.Path.{subst}
 use mathlib.Core.List.{List}
-use borrow.Author.Rules.{rules}
 use lib.IntN.{ℤ, pos}
 use lib.ListN.{length, replicate, length-replicate}
 use Rattle.loops.proofs.Fed.{cleared-zeros}

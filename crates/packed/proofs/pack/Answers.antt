@@ -1,6 +1,5 @@
 -- `packed::pack` meets its contract: the words are read as the head that they were written for.
 use mathlib.Core.Path.{◌≡◌, refl}
-use borrow.Author.Rules.{rules}
 use Rattle.voice.specs.declared.Head.{Head}
 use Rattle.packed.specs.Words.{head_of}
 use Rattle.packed.proofs.pack.Goals as goal

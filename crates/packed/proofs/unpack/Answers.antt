@@ -1,5 +1,4 @@
 -- `packed::unpack` meets its contract: each part is read at its place.
-use borrow.Author.Rules.{rules}
 use Rattle.packed.specs.Words.{head_of}
 use Rattle.packed.proofs.unpack.Goals as goal
 

@@ -1,5 +1,4 @@
 -- `snapshot::load` meets its contract: the words are those of the head that was loaded.
-use borrow.Author.Rules.{rules}
 use Rattle.snapshot.proofs.load.Goals as goal
 
 pub pack-w-requires : goal.pack-w-requires

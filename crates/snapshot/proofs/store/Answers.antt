@@ -1,5 +1,4 @@
 -- `snapshot::store` meets its contract: the voice is stored that the words and the line are.
-use borrow.Author.Rules.{rules}
 use Rattle.snapshot.proofs.store.Goals as goal
 
 pub store-s-requires : goal.store-s-requires

@@ -1,10 +1,5 @@
 use mathlib.Core.Path.{refl}
 use Rattle.store.proofs.Laid.{choose}
-use borrow.Author.Rules.{rules}
-use Rattle.store.proofs.bits_of.Reads as reads
-use Rattle.store.proofs.bits_of.Lts as lts
-use Rattle.store.proofs.changes.Reads as changes-reads
-use Rattle.store.proofs.differ.Reads as differ-reads
 use Rattle.store.proofs.bits_of.Goals as goal
 
 -- src/lib.rt:159:1

@@ -1,12 +1,8 @@
-use mathlib.Core.Path.{◌≡◌, sym, ◌∙◌}
+use mathlib.Core.Path.{sym, ◌∙◌}
 use mathlib.Core.Bool.{true, ◌&&◌}
 use lib.Dec.{eqb}
 use borrow.Author.Tests.{ne_eqb, eq-eqb}
 use Rattle.store.proofs.Laid.{differs, second_differs, third_differs, last_differs}
-use borrow.Author.Rules.{rules}
-use Rattle.store.proofs.changes.Reads as reads
-use Rattle.store.proofs.changes.Lts as lts
-use Rattle.store.proofs.differ.Reads as differ-reads
 use Rattle.store.proofs.changes.Goals as goal
 
 -- src/lib.rt:147:9

@@ -1,10 +1,6 @@
 use mathlib.Core.Path.{subst}
 use Rattle.voice.specs.declared.Waiting.{Waiting}
 use Rattle.store.specs.Coming.{Quiet}
-use borrow.Author.Rules.{rules}
-use Rattle.store.proofs.coming_of.Reads as reads
-use Rattle.store.proofs.coming_of.Lts as lts
-use Rattle.store.proofs.prepared.Reads as prepared-reads
 use Rattle.store.proofs.coming_of.Goals as goal
 
 -- src/lib.rt:298:39

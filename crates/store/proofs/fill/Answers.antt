@@ -2,11 +2,9 @@
 
 use contract.Lifetimes.{Lfts}
 use mathlib.Core.Path.{◌≡◌, ◌∙◌}
-use mathlib.Core.Bool.{Bool}
 use mathlib.Core.List.{List, [], ◌∷◌}
 use Prim.Native.Nat.{ℕ, ◌+◌, ◌≤◌}
 use native.Mathlib.Omega.{arith}
-use borrow.Author.Rules.{rules}
 use lib.ListN.{length}
 use Rattle.form.specs.Parts.{packed}
 use Rattle.store.specs.declared.Words.{Words}

@@ -1,9 +1,5 @@
 use native.Mathlib.Omega.{arith}
 use Rattle.store.proofs.Laid.{map_is}
-use borrow.Author.Rules.{rules}
-use Rattle.store.proofs.map_byte.Reads as reads
-use Rattle.store.proofs.map_byte.Lts as lts
-use Rattle.store.proofs.share.Reads as share-reads
 use Rattle.store.proofs.map_byte.Goals as goal
 
 -- src/lib.rt:197:1

@@ -1,13 +1,9 @@
-use mathlib.Core.Path.{◌≡◌, refl, sym, ap, ◌∙◌}
+use mathlib.Core.Path.{sym, ap, ◌∙◌}
 use mathlib.Core.List.{List, [], ◌∷◌}
 use Prim.Native.Nat.{ℕ, ◌+◌}
 use native.Mathlib.Omega.{arith}
 use Rattle.octets.specs.Octets.{laid}
 use Rattle.store.proofs.Laid.{all-put, none-put, encoded-one, given-all}
-use borrow.Author.Rules.{rules}
-use Rattle.store.proofs.one.Reads as reads
-use Rattle.store.proofs.one.Lts as lts
-use Rattle.octets.proofs.put.Reads as put_reads
 use Rattle.store.proofs.one.Goals as goal
 
 -- src/lib.rt:31:9

@@ -1,14 +1,8 @@
-use mathlib.Core.Path.{◌≡◌, ap}
-use mathlib.Core.List.{List, [], ◌∷◌}
+use mathlib.Core.Path.{ap}
+use mathlib.Core.List.{List, ◌∷◌}
 use Prim.Native.Nat.{ℕ}
 use Rattle.form.specs.Numbers.{kind_of as kind_number}
 use Rattle.voice.specs.Struct.{kind_of}
-use borrow.Author.Rules.{rules}
-use Rattle.store.proofs.prepared.Reads as reads
-use Rattle.store.proofs.prepared.Lts as lts
-use Rattle.store.proofs.kind.Reads as kind-reads
-use Rattle.store.proofs.three_words.Reads as three-words-reads
-use Rattle.store.proofs.wide.Reads as wide-reads
 use Rattle.store.proofs.prepared.Goals as goal
 
 -- src/lib.rt:260:1

@@ -1,9 +1,5 @@
 use native.Mathlib.Omega.{arith}
 use Rattle.store.proofs.Laid.{size_is}
-use borrow.Author.Rules.{rules}
-use Rattle.store.proofs.size.Reads as reads
-use Rattle.store.proofs.size.Lts as lts
-use Rattle.store.proofs.share.Reads as share-reads
 use Rattle.store.proofs.size.Goals as goal
 
 -- src/lib.rt:189:1

@@ -1,5 +1,5 @@
-use mathlib.Core.Path.{◌≡◌, ap, ◌∙◌}
-use Prim.Native.Nat.{ℕ, ◌+◌, ◌≤◌}
+use mathlib.Core.Path.{ap, ◌∙◌}
+use Prim.Native.Nat.{ℕ}
 use native.Mathlib.Omega.{arith}
 use Rattle.octets.specs.Octets.{bytes, laid}
 use Rattle.form.specs.Parts.{refused_parts}
@@ -7,16 +7,6 @@ use Rattle.form.proofs.Packing.{size-most}
 use Rattle.form.proofs.Numbers.{refused-total}
 use Rattle.store.specs.Puts.{flags_of}
 use Rattle.store.proofs.Whole.{body_long, too_short, fits_in}
-use borrow.Author.Rules.{rules}
-use Rattle.store.proofs.store.Reads as reads
-use Rattle.store.proofs.store.Lts as lts
-use Rattle.octets.proofs.put.Reads as put_reads
-use Rattle.samples.proofs.sounds.Reads as sounds-reads
-use Rattle.store.proofs.bits_of.Reads as bits-of-reads
-use Rattle.store.proofs.fill.Reads as fill-reads
-use Rattle.store.proofs.map_byte.Reads as map-byte-reads
-use Rattle.store.proofs.size.Reads as size-reads
-use Rattle.store.proofs.words_of.Reads as words-of-reads
 use Rattle.store.proofs.store.Goals as goal
 
 -- src/lib.rt:361:13

@@ -1,15 +1,13 @@
 use contract.Lifetimes.{Lfts}
 use mathlib.Core.Path.{◌≡◌}
-use mathlib.Core.List.{List, [], ◌∷◌}
-use Prim.Native.Nat.{◌+◌, ◌≤◌}
+use mathlib.Core.List.{[], ◌∷◌}
+use Prim.Native.Nat.{◌+◌}
 use lib.ListN.{length}
 use Rattle.store.specs.Puts.{given}
 use native.Mathlib.Omega.{arith}
 use Rattle.store.proofs.Laid.{split, same-room, then-put}
-use borrow.Author.Rules.{rules}
 use Rattle.store.proofs.three.Reads as reads
 use Rattle.store.proofs.three.Lts as lts
-use Rattle.store.proofs.one.Reads as one-reads
 use Rattle.store.proofs.three.Goals as goal
 use Rattle.store.proofs.three.Lts as lts
 use Rattle.store.proofs.three.Reads as reads

@@ -1,13 +1,9 @@
 use mathlib.Core.Path.{◌≡◌, refl, ap, ◌∙◌}
-use Prim.Native.Nat.{◌≤◌}
 use native.Mathlib.Omega.{arith}
 use mir.Syntax.{w64}
 use mir.Val.{to_z, of_z}
 use Rattle.integer.proofs.View.{read}
 use Rattle.form.specs.Parts.{word}
-use Rattle.store.proofs.three_words.Reads as reads
-use Rattle.store.proofs.three_words.Lts as lts
-use Rattle.store.proofs.word.Reads as word-reads
 use Rattle.store.proofs.three_words.Goals as goal
 
 module _ (c : goal.After-struct_told-3-1) where

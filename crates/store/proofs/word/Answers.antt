@@ -1,9 +1,5 @@
 use mathlib.Core.Path.{refl}
 use Rattle.store.proofs.Laid.{word-is}
-use borrow.Author.Rules.{rules}
-use Rattle.store.proofs.word.Reads as reads
-use Rattle.store.proofs.word.Lts as lts
-use Rattle.octets.proofs.bits.Reads as bits-reads
 use Rattle.store.proofs.word.Goals as goal
 
 -- src/lib.rt:18:1

@@ -1,11 +1,4 @@
 use Rattle.store.proofs.Heads.{quiet-state, quiet-waiting, words_are}
-use borrow.Author.Rules.{rules}
-use Rattle.store.proofs.words_of.Reads as reads
-use Rattle.store.proofs.words_of.Lts as lts
-use Rattle.store.proofs.coming_of.Reads as coming-of-reads
-use Rattle.store.proofs.three_words.Reads as three-words-reads
-use Rattle.store.proofs.wide.Reads as wide-reads
-use Rattle.store.proofs.word.Reads as word-reads
 use Rattle.store.proofs.words_of.Goals as goal
 
 -- src/lib.rt:310:9

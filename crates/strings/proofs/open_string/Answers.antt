@@ -1,6 +1,5 @@
 -- `strings::open_string` meets its contract: 24, or Open on the row.
 use native.Mathlib.Omega.{arith}
-use borrow.Author.Rules.{rules}
 use Rattle.instrument.specs.Strings.{opens}
 use Rattle.strings.proofs.Rows.{played-above, played}
 use Rattle.strings.proofs.open_string.Goals as goal

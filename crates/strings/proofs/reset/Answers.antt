@@ -1,15 +1,13 @@
 -- `strings::reset` meets its contract: an opening of order 0 is refused, and its voice is in each row.
-use mathlib.Core.Path.{◌≡◌, refl, ap, ap₂, ◌∙◌}
+use mathlib.Core.Path.{◌≡◌, ap, ap₂, ◌∙◌}
 use mathlib.Core.List.{List, []}
-use Prim.Native.Nat.{ℕ, ◌≤◌}
+use Prim.Native.Nat.{ℕ}
 use native.Mathlib.Omega.{arith}
-use borrow.Author.Rules.{rules}
 use lib.IntN.{ℤ}
-use lib.ListN.{get_or, replicate, length-replicate, get_or-replicate}
+use lib.ListN.{replicate, length-replicate, get_or-replicate}
 use Rattle.rule.specs.Calls.{Opening}
 use Rattle.voice.specs.declared.Head.{Head}
 use Rattle.voice.specs.Struct.{state_of}
-use Rattle.voice.specs.Valid.{Valid}
 use Rattle.open.specs.declared.Opened.{Opened}
 use Rattle.open.specs.Opened.{Opens}
 use Rattle.packed.specs.Words.{head_of}

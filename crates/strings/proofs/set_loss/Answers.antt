@@ -1,6 +1,5 @@
 -- `strings::set_loss` meets its contract: 24, or the call on the row.
 use native.Mathlib.Omega.{arith}
-use borrow.Author.Rules.{rules}
 use Rattle.rule.specs.Calls.{loss}
 use Rattle.instrument.specs.Strings.{calls}
 use Rattle.strings.proofs.Rows.{called-above, called}

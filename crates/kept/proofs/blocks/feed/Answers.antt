@@ -1,6 +1,5 @@
 -- `kept::blocks::feed` meets its contract: a block of zeros is played; any other is the block by value on
 -- the head that the words are.
-use borrow.Author.Rules.{rules}
 use Rattle.block.proofs.Blocks.{zeros}
 use lib.ListN.{length}
 use Rattle.kept.proofs.blocks.feed.Goals as goal

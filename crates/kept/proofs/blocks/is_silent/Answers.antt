@@ -1,7 +1,6 @@
 -- `kept::blocks::is_silent` meets its contract.
 use mathlib.Core.Path.{sym, ◌∙◌}
 use mathlib.Core.Bool.{true≢false}
-use borrow.Author.Rules.{rules}
 use borrow.Author.Tests.{ltb-false, not-true}
 use Rattle.samples.specs.Samples.{loudest}
 use Rattle.kept.proofs.blocks.is_silent.Goals as goal

@@ -1,9 +1,8 @@
 -- `kept::blocks::unfed` meets its contract: one stretch, or one and the rest.
 use mathlib.Core.Path.{◌≡◌, sym, subst}
 use mathlib.Core.Bool.{false}
-use Prim.Native.Nat.{ℕ, ◌≤◌}
+use Prim.Native.Nat.{ℕ}
 use native.Mathlib.Omega.{arith}
-use borrow.Author.Rules.{rules}
 use lib.ListN.{length}
 use Rattle.voice.specs.declared.Head.{Head}
 use Rattle.loops.specs.Rendered.{Went}

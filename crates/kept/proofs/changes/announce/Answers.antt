@@ -1,5 +1,4 @@
 -- `kept::changes::announce` meets its contract: the call by value on the head that the words are.
-use borrow.Author.Rules.{rules}
 use Rattle.kept.proofs.changes.announce.Goals as goal
 
 pub announce-a-requires : goal.announce-a-requires

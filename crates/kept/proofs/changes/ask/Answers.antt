@@ -1,5 +1,4 @@
 -- `kept::changes::ask` meets its contract: the call by value on the head that the words are.
-use borrow.Author.Rules.{rules}
 use Rattle.kept.proofs.changes.ask.Goals as goal
 
 pub ask-a-requires : goal.ask-a-requires

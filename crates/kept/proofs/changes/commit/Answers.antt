@@ -1,5 +1,4 @@
 -- `kept::changes::commit` meets its contract: the call by value on the head that the words are.
-use borrow.Author.Rules.{rules}
 use Rattle.kept.proofs.changes.commit.Goals as goal
 
 pub commit-r-requires : goal.commit-r-requires

@@ -1,6 +1,5 @@
 -- `kept::changes::instant` meets its contract: the call by value on the head that the words are, and its
 -- count.
-use borrow.Author.Rules.{rules}
 use Rattle.kept.proofs.changes.instant.Goals as goal
 
 pub instant-c-requires : goal.instant-c-requires

@@ -1,5 +1,4 @@
 -- `kept::changes::withdraw` meets its contract: the call by value on the head that the words are.
-use borrow.Author.Rules.{rules}
 use Rattle.kept.proofs.changes.withdraw.Goals as goal
 
 pub withdraw-a-requires : goal.withdraw-a-requires

@@ -1,7 +1,6 @@
 -- `kept::waits::left` meets its contract: a change that waits has taken no more samples than the advance.
 use mathlib.Core.Path.{subst}
 use native.Mathlib.Omega.{arith}
-use borrow.Author.Rules.{rules}
 use Rattle.voice.specs.declared.Waiting.{Waiting}
 use Rattle.voice.specs.Valid.{Waiting-valid}
 use Rattle.kept.proofs.waits.left.Goals as goal

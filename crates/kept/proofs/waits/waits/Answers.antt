@@ -1,5 +1,4 @@
 -- `kept::waits::waits` meets its contract.
-use borrow.Author.Rules.{rules}
 use Rattle.kept.proofs.waits.waits.Goals as goal
 
 pub left-requires : goal.left-requires

@@ -2,11 +2,6 @@ use Rattle.load.proofs.Heads.{takes, filter-tuned}
 use Rattle.load.specs.Words.{three_of}
 use Rattle.rule.specs.Voice.{tuning}
 use mathlib.Core.Path.{refl}
-use borrow.Author.Rules.{rules}
-use Rattle.load.proofs.build.filter_of.Reads as reads
-use Rattle.load.proofs.build.filter_of.Lts as lts
-use Rattle.load.proofs.build.state_of.Reads as state-of-reads
-use Rattle.thiran.proofs.formula.set.Reads as set_Reads
 use Rattle.load.proofs.build.filter_of.Goals as goal
 
 -- src/build.rt:47:9

@@ -2,13 +2,6 @@ use Rattle.load.proofs.Heads.{voice-is}
 use Rattle.voice.specs.declared.Head.{Head}
 use native.Mathlib.Omega.{arith}
 use mathlib.Core.Path.{refl}
-use borrow.Author.Rules.{rules}
-use Rattle.load.proofs.build.head_of.Reads as reads
-use Rattle.load.proofs.build.head_of.Lts as lts
-use Rattle.load.proofs.build.filter_of.Reads as filter-of-reads
-use Rattle.load.proofs.build.pluck_of.Reads as pluck-of-reads
-use Rattle.load.proofs.build.value_of.Reads as value-of-reads
-use Rattle.load.proofs.build.waiting_of.Reads as waiting-of-reads
 use Rattle.load.proofs.build.head_of.Goals as goal
 
 -- src/build.rt:95:1

@@ -1,9 +1,5 @@
 use Rattle.load.proofs.Said.{taken-early, taken-late}
 use Rattle.load.proofs.Heads.{announced_waits, asked_waits}
-use borrow.Author.Rules.{rules}
-use Rattle.load.proofs.build.prepared.Reads as reads
-use Rattle.load.proofs.build.prepared.Lts as lts
-use Rattle.load.proofs.build.filter_of.Reads as filter-of-reads
 use Rattle.load.proofs.build.prepared.Goals as goal
 
 -- src/build.rt:68:9

@@ -1,9 +1,5 @@
 use Rattle.integer.proofs.View.{read}
 use mir.Syntax.{w64}
-use borrow.Author.Rules.{rules}
-use Rattle.load.proofs.build.state_of.Reads as reads
-use Rattle.load.proofs.build.state_of.Lts as lts
-use Rattle.load.proofs.build.value_of.Reads as value-of-reads
 use Rattle.load.proofs.build.state_of.Goals as goal
 
 -- src/build.rt:30:1

@@ -1,8 +1,4 @@
 use Rattle.load.proofs.Said.{comes}
-use borrow.Author.Rules.{rules}
-use Rattle.load.proofs.build.waiting_of.Reads as reads
-use Rattle.load.proofs.build.waiting_of.Lts as lts
-use Rattle.load.proofs.build.prepared.Reads as prepared-reads
 use Rattle.load.proofs.build.waiting_of.Goals as goal
 
 -- src/build.rt:80:5

@@ -1,17 +1,9 @@
-use Rattle.load.proofs.Line.{Until, too_loud, one_more, word_read}
+use Rattle.load.proofs.Line.{too_loud, one_more, word_read}
 use lib.IntN.{nat_abs}
 use Prim.Native.Nat.{◌+◌, ◌*◌}
-use mathlib.Core.Logic.{⊎_elim}
 use mathlib.Core.Path.{◌≡◌, ap, ◌∙◌}
-use borrow.Author.Rules.{rules}
 use Rattle.load.proofs.Said.{says_yes}
-use Rattle.load.specs.Says.{Says}
 use native.Mathlib.Omega.{arith}
-use Prim.Native.Nat.{◌≤◌, ◌-◌}
-use Rattle.load.proofs.limits.all_samples.Reads as reads
-use Rattle.load.proofs.limits.all_samples.Lts as lts
-use Rattle.load.proofs.limits.magnitude.Reads as magnitude-reads
-use Rattle.octets.proofs.four.Reads as four-reads
 use Rattle.load.proofs.limits.all_samples.Goals.{then-magnitude-gt8388607, else-magnitude-gt8388607}
 use Rattle.load.proofs.limits.all_samples.Goals as goal
 

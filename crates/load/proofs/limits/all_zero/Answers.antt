@@ -1,9 +1,5 @@
 use Prim.Native.Nat.{◌+◌}
 use Rattle.load.proofs.Said.{none-waits}
-use borrow.Author.Rules.{rules}
-use Rattle.load.proofs.limits.all_zero.Reads as reads
-use Rattle.load.proofs.limits.all_zero.Lts as lts
-use Rattle.load.proofs.limits.wide.Reads as wide-reads
 use Rattle.load.proofs.limits.all_zero.Goals as goal
 
 -- src/limits.rt:73:1

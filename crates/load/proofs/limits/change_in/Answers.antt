@@ -1,10 +1,4 @@
 use Rattle.load.proofs.Said.{says_no, granted, refuted, idle, early-or-late, by_filter}
-use borrow.Author.Rules.{rules}
-use Rattle.load.proofs.limits.change_in.Reads as reads
-use Rattle.load.proofs.limits.change_in.Lts as lts
-use Rattle.load.proofs.limits.all_zero.Reads as all-zero-reads
-use Rattle.load.proofs.limits.filter_in.Reads as filter-in-reads
-use Rattle.load.proofs.limits.taken_in.Reads as taken-in-reads
 use Rattle.load.proofs.limits.change_in.Goals as goal
 
 -- src/limits.rt:99:9

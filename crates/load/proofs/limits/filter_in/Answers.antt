@@ -2,14 +2,7 @@ use Rattle.load.proofs.Said.{says_no, tuned, all_said}
 use Rattle.load.specs.Words.{three_of}
 use Rattle.rule.specs.Voice.{tuning}
 use native.Mathlib.Omega.{arith}
-use Prim.Native.Nat.{◌≤◌}
-use mathlib.Core.Path.{◌≡◌, sym, ◌∙◌}
-use borrow.Author.Rules.{rules}
-use Rattle.load.proofs.limits.filter_in.Reads as reads
-use Rattle.load.proofs.limits.filter_in.Lts as lts
-use Rattle.load.proofs.limits.magnitude.Reads as magnitude-reads
-use Rattle.load.proofs.limits.past.Reads as past-reads
-use Rattle.voice.proofs.untuned.Reads as untuned-reads
+use mathlib.Core.Path.{sym, ◌∙◌}
 use Rattle.load.proofs.limits.filter_in.Goals as goal
 
 -- src/limits.rt:48:9

@@ -1,12 +1,5 @@
 use Rattle.load.proofs.Said.{says_no, granted, refuted}
 use native.Mathlib.Omega.{arith}
-use borrow.Author.Rules.{rules}
-use Rattle.load.proofs.limits.head_in.Reads as reads
-use Rattle.load.proofs.limits.head_in.Lts as lts
-use Rattle.load.proofs.limits.change_in.Reads as change-in-reads
-use Rattle.load.proofs.limits.filter_in.Reads as filter-in-reads
-use Rattle.load.proofs.limits.magnitude.Reads as magnitude-reads
-use Rattle.load.proofs.limits.pluck_in.Reads as pluck-in-reads
 use Rattle.load.proofs.limits.head_in.Goals as goal
 
 -- src/limits.rt:131:9

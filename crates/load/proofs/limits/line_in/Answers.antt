@@ -1,7 +1,3 @@
-use borrow.Author.Rules.{rules}
-use Rattle.load.proofs.limits.line_in.Reads as reads
-use Rattle.load.proofs.limits.line_in.Lts as lts
-use Rattle.load.proofs.limits.all_samples.Reads as all-samples-reads
 use Rattle.load.proofs.limits.line_in.Goals as goal
 
 -- src/limits.rt:172:9

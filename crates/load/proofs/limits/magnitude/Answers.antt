@@ -1,8 +1,5 @@
 use native.Mathlib.Omega.{arith}
 use Rattle.load.proofs.Said.{low, high}
-use borrow.Author.Rules.{rules}
-use Rattle.load.proofs.limits.magnitude.Reads as reads
-use Rattle.load.proofs.limits.magnitude.Lts as lts
 use Rattle.load.proofs.limits.magnitude.Goals as goal
 
 -- src/limits.rt:22:9

@@ -1,7 +1,4 @@
 use Rattle.load.proofs.Said.{says_no, last-past}
-use borrow.Author.Rules.{rules}
-use Rattle.load.proofs.limits.past.Reads as reads
-use Rattle.load.proofs.limits.past.Lts as lts
 use Rattle.load.proofs.limits.past.Goals as goal
 
 -- src/limits.rt:35:9

@@ -1,8 +1,5 @@
 use Rattle.load.proofs.Said.{says_no, no_steps}
 use native.Mathlib.Omega.{arith}
-use borrow.Author.Rules.{rules}
-use Rattle.load.proofs.limits.pluck_in.Reads as reads
-use Rattle.load.proofs.limits.pluck_in.Lts as lts
 use Rattle.load.proofs.limits.pluck_in.Goals as goal
 
 -- src/limits.rt:112:9

@@ -1,6 +1,4 @@
 use Rattle.load.proofs.Said.{says_no, taken-before, taken-up-to, no_kind}
-use Rattle.load.proofs.limits.taken_in.Reads as reads
-use Rattle.load.proofs.limits.taken_in.Lts as lts
 use Rattle.load.proofs.limits.taken_in.Goals as goal
 
 -- src/limits.rt:86:9

@@ -1,10 +1,5 @@
 use Rattle.load.proofs.Found.{change-read}
 use native.Mathlib.Omega.{arith}
-use borrow.Author.Rules.{rules}
-use Rattle.load.proofs.words.change_of.Reads as reads
-use Rattle.load.proofs.words.change_of.Lts as lts
-use Rattle.load.proofs.words.read.Reads as read-reads
-use Rattle.load.proofs.words.read_three.Reads as read-three-reads
 use Rattle.load.proofs.words.change_of.Goals as goal
 
 -- src/words.rt:114:9

@@ -1,9 +1,5 @@
 use Rattle.load.proofs.Found.{first}
 use mathlib.Core.Path.{◌∙◌}
-use borrow.Author.Rules.{rules}
-use Rattle.load.proofs.words.map_of.Reads as reads
-use Rattle.load.proofs.words.map_of.Lts as lts
-use Rattle.octets.proofs.part.Reads as part-reads
 use Rattle.load.proofs.words.map_of.Goals as goal
 
 -- src/words.rt:57:1

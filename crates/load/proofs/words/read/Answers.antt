@@ -1,9 +1,5 @@
 use Rattle.load.proofs.Found.{is-there, not_there}
 use mathlib.Core.Path.{◌∙◌}
-use borrow.Author.Rules.{rules}
-use Rattle.load.proofs.words.read.Reads as reads
-use Rattle.load.proofs.words.read.Lts as lts
-use Rattle.octets.proofs.part.Reads as part-reads
 use Rattle.load.proofs.words.read.Goals as goal
 
 -- src/words.rt:91:9

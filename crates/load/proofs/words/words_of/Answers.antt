@@ -1,12 +1,5 @@
 use native.Mathlib.Omega.{arith}
 use Rattle.load.proofs.Found.{held}
-use borrow.Author.Rules.{rules}
-use Rattle.load.proofs.words.words_of.Reads as reads
-use Rattle.load.proofs.words.words_of.Lts as lts
-use Rattle.load.proofs.words.change_of.Reads as change-of-reads
-use Rattle.load.proofs.words.places.Reads as places-reads
-use Rattle.load.proofs.words.read.Reads as read-reads
-use Rattle.load.proofs.words.read_three.Reads as read-three-reads
 use Rattle.load.proofs.words.words_of.Goals as goal
 
 -- src/words.rt:137:9

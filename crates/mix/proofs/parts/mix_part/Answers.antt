@@ -1,7 +1,6 @@
 -- `mix::parts::mix_part` meets its contract: the sums of all six, clipped once.
 use mathlib.Core.Path.{ap, ◌∙◌}
 use mathlib.Core.List.{List, map}
-use borrow.Author.Rules.{rules}
 use lib.IntN.{ℤ}
 use Rattle.integer.specs.Rounding.{clip}
 use Rattle.loops.specs.Fed.{fed_of}

@@ -1,6 +1,5 @@
 -- `mix::parts::part` meets its contract: the front of the room and of the sums is as long as the part.
 use mathlib.Core.Path.{sym}
-use borrow.Author.Rules.{rules}
 use lib.ListN.{length}
 use lib.Seq.{length-take-le}
 use Rattle.mix.proofs.parts.part.Goals as goal

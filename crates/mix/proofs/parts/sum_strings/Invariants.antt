@@ -1,17 +1,11 @@
 -- `mix::parts::sum_strings` meets its contract: once the first string begins the sums, each of the others
 -- is added.
-use mathlib.Core.Path.{◌≡◌, refl, sym, ◌∙◌}
-use mathlib.Core.List.{List}
+use mathlib.Core.Path.{◌≡◌}
 use Prim.Native.Nat.{◌-◌, ◌≤◌}
-use native.Mathlib.Omega.{arith}
-use borrow.Author.Rules.{rules}
-use lib.IntN.{ℤ}
 use lib.ListN.{length}
 use Rattle.loops.specs.Fed.{fed_of}
-use Rattle.loops.proofs.Fed.{length-fed}
 use Rattle.instrument.specs.Strings.{Strings}
-use Rattle.strings.specs.Rows.{strings_of}
-use Rattle.mix.proofs.Strings.{Firsts, firsts_one, firsts_quiet, firsts_long, firsts_more, firsts_all}
+use Rattle.mix.proofs.Strings.{Firsts}
 use Rattle.mix.proofs.parts.sum_strings.Given as goal
 
 abbrev pub invariant-loop-k : goal.invariant-loop-k

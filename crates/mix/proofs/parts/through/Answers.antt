@@ -1,11 +1,11 @@
 -- `mix::parts::through` meets its contract: part after part, what is left makes what the whole makes.
-use mathlib.Core.Path.{◌≡◌, refl, sym, ap, ◌∙◌}
+use mathlib.Core.Path.{refl, sym}
 use Prim.Native.Nat.{ℕ, ◌+◌, ◌-◌, ◌≤◌, ◌<◌}
 use native.Mathlib.Omega.{arith}
 use borrow.Author.Rules.{rules}
 use borrow.Rule.Slice.PartMut.{mid_len}
 use lib.ListN.{length}
-use Rattle.mix.proofs.Went.{Went, begins, part-quiet, went_on, ends}
+use Rattle.mix.proofs.Went.{begins, part-quiet, went_on, ends}
 use Rattle.mix.proofs.parts.through.Goals as goal
 use Rattle.mix.proofs.parts.through.Lts as lts
 use Rattle.mix.proofs.parts.through.Reads as reads

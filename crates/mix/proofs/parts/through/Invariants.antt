@@ -1,11 +1,8 @@
 -- `mix::parts::through` meets its contract: part after part, what is left makes what the whole makes.
-use mathlib.Core.Path.{◌≡◌, refl, sym, ap, ◌∙◌}
-use Prim.Native.Nat.{ℕ, ◌+◌, ◌-◌, ◌≤◌, ◌<◌}
-use native.Mathlib.Omega.{arith}
-use borrow.Author.Rules.{rules}
-use borrow.Rule.Slice.PartMut.{mid_len}
+use mathlib.Core.Path.{◌≡◌}
+use Prim.Native.Nat.{◌-◌}
 use lib.ListN.{length}
-use Rattle.mix.proofs.Went.{Went, begins, part-quiet, went_on, ends}
+use Rattle.mix.proofs.Went.{Went}
 use Rattle.mix.proofs.parts.through.Given as goal
 
 abbrev pub invariant-loop-i : goal.invariant-loop-i

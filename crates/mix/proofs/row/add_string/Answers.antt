@@ -2,13 +2,10 @@
 use mathlib.Core.Path.{◌≡◌, ap, subst, sym, ◌∙◌}
 use mathlib.Core.List.{List}
 use Prim.Native.Nat.{◌≤◌}
-use native.Mathlib.Omega.{arith}
-use borrow.Author.Rules.{rules}
 use lib.IntN.{ℤ}
 use lib.ListN.{length}
 use Rattle.integer.specs.Rounding.{M}
 use Rattle.samples.specs.Samples.{loudest}
-use Rattle.rule.specs.State.{State, block_out}
 use Rattle.rule.proofs.Puts.{length-out}
 use Rattle.voice.specs.Struct.{state_of}
 use Rattle.loops.specs.Fed.{fed_of}

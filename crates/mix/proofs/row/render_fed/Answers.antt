@@ -1,6 +1,5 @@
 -- `mix::row::render_fed` meets its contract: the samples that the voice's own loops render, on the words'
 -- head.
-use borrow.Author.Rules.{rules}
 use Rattle.mix.proofs.row.render_fed.Goals as goal
 
 pub render-k-requires : goal.render-k-requires

@@ -1,6 +1,5 @@
 -- `mix::row::render_unfed` meets its contract: a block of zeros is not refused.
-use mathlib.Core.Path.{◌≡◌, refl, sym, ◌∙◌}
-use borrow.Author.Rules.{rules}
+use mathlib.Core.Path.{refl, sym, ◌∙◌}
 use lib.IntN.{pos}
 use lib.ListN.{length, replicate, length-replicate}
 use Rattle.rule.specs.Calls.{block, done}

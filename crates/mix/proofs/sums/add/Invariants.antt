@@ -1,18 +1,11 @@
 -- `mix::sums::add` meets its contract: below i the sums have the samples added, from i on they are as they
 -- were.
-use mathlib.Core.Path.{◌≡◌, refl, ap₂, ◌∙◌}
-use Prim.Native.Nat.{ℕ, ◌+◌, ◌-◌, ◌≤◌, ◌<◌}
-use native.Mathlib.Omega.{arith}
-use borrow.Author.Rules.{rules}
-use lib.IntN.{pos, ◌+ℤ◌}
-use lib.ListN.{length, get_or, length-set}
-use lib.Seq.{get_or-set_other}
-use mir.Syntax.{w32}
-use Rattle.integer.proofs.View.{read}
-use Rattle.samples.proofs.Samples.{loud}
-use Rattle.samples.proofs.Taken.{Taken, one_more, all-taken}
+use mathlib.Core.Path.{◌≡◌}
+use Prim.Native.Nat.{ℕ, ◌-◌, ◌≤◌}
+use lib.IntN.{pos}
+use lib.ListN.{length, get_or}
+use Rattle.samples.proofs.Taken.{Taken}
 use Rattle.mix.specs.Sums.{plus}
-use Rattle.mix.proofs.Added.{length-plus, plus-at}
 use Rattle.mix.proofs.sums.add.Given as goal
 
 abbrev pub invariant-loop-i : goal.invariant-loop-i

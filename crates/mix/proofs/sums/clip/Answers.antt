@@ -1,15 +1,14 @@
 -- `mix::sums::clip` meets its contract: the output agrees with the clipped sums below i.
-use mathlib.Core.Path.{◌≡◌, refl, sym, ap, ◌∙◌}
+use mathlib.Core.Path.{refl, ap, ◌∙◌}
 use mathlib.Core.List.{map}
-use Prim.Native.Nat.{◌-◌, ◌<◌}
+use Prim.Native.Nat.{◌<◌}
 use native.Mathlib.Omega.{arith}
-use borrow.Author.Rules.{rules}
 use lib.IntN.{pos}
 use lib.ListN.{length, get_or, length-set, length-map}
 use mir.Syntax.{w32}
 use Rattle.integer.specs.Rounding.{clip}
 use Rattle.integer.proofs.View.{read}
-use Rattle.samples.proofs.Taken.{Taken, one_more, all-taken}
+use Rattle.samples.proofs.Taken.{one_more, all-taken}
 use Rattle.mix.proofs.Added.{clip-at}
 use Rattle.mix.proofs.sums.clip.Goals as goal
 

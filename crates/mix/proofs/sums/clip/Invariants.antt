@@ -1,16 +1,10 @@
 -- `mix::sums::clip` meets its contract: the output agrees with the clipped sums below i.
-use mathlib.Core.Path.{◌≡◌, refl, sym, ap, ◌∙◌}
+use mathlib.Core.Path.{◌≡◌}
 use mathlib.Core.List.{map}
-use Prim.Native.Nat.{◌-◌, ◌<◌}
-use native.Mathlib.Omega.{arith}
-use borrow.Author.Rules.{rules}
-use lib.IntN.{pos}
-use lib.ListN.{length, get_or, length-set, length-map}
-use mir.Syntax.{w32}
+use Prim.Native.Nat.{◌-◌}
+use lib.ListN.{length}
 use Rattle.integer.specs.Rounding.{clip}
-use Rattle.integer.proofs.View.{read}
-use Rattle.samples.proofs.Taken.{Taken, one_more, all-taken}
-use Rattle.mix.proofs.Added.{clip-at}
+use Rattle.samples.proofs.Taken.{Taken}
 use Rattle.mix.proofs.sums.clip.Given as goal
 
 abbrev pub invariant-loop-i : goal.invariant-loop-i

@@ -1,5 +1,4 @@
 -- `packed::fits::filter_fits` meets its contract: nine words, each read at its place.
-use borrow.Author.Rules.{rules}
 use Rattle.packed.proofs.fits.filter_fits.Goals as goal
 
 pub returns : goal.returns

@@ -3,7 +3,6 @@ use mathlib.Core.Path.{refl, sym, ◌∙◌}
 use mathlib.Core.Bool.{true≢false}
 use native.Mathlib.Omega.{arith}
 use Rattle.packed.specs.Words.{head_of}
-use borrow.Author.Rules.{rules}
 use Rattle.packed.proofs.fits.fits.Goals as goal
 
 pub returns-then-not-filter_fits : goal.returns-then-not-filter_fits

@@ -1,6 +1,5 @@
 -- `packed::fits::is` meets its contract.
 use Rattle.packed.proofs.Tests.{word-is}
-use borrow.Author.Rules.{rules}
 use Rattle.packed.proofs.fits.is.Goals as goal
 
 pub returns : goal.returns

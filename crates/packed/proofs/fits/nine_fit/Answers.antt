@@ -5,7 +5,6 @@ use mathlib.Core.Bool.{true≢false}
 use Rattle.voice.proofs.Tunes.{Tunes}
 use Rattle.signs.specs.Signs.{signed_of}
 use Rattle.packed.proofs.Tests.{tuning_is, coefficients-small, most-small, filter-is}
-use borrow.Author.Rules.{rules}
 use Rattle.packed.proofs.fits.nine_fit.Goals as goal
 
 pub returns-then-untuned-ne0 : goal.returns-then-untuned-ne0

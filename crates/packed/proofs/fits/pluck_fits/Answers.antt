@@ -1,6 +1,5 @@
 -- `packed::fits::pluck_fits` meets its contract.
 use native.Mathlib.Omega.{arith}
-use borrow.Author.Rules.{rules}
 use Rattle.packed.proofs.fits.pluck_fits.Goals as goal
 
 pub returns-then-left-ne0 : goal.returns-then-left-ne0

@@ -1,6 +1,5 @@
 -- `packed::fits::small` meets its contract.
 use Rattle.packed.proofs.Tests.{small_is}
-use borrow.Author.Rules.{rules}
 use Rattle.packed.proofs.fits.small.Goals as goal
 
 pub returns : goal.returns

@@ -4,7 +4,6 @@ use mathlib.Core.Bool.{true≢false}
 use lib.ListN.{get_or}
 use Rattle.packed.specs.Words.{filter_from}
 use Rattle.packed.proofs.Tests.{idle-is, waiting-is}
-use borrow.Author.Rules.{rules}
 use Rattle.packed.proofs.fits.waiting_fits.Goals as goal
 
 pub returns-then-kind-eq0 : goal.returns-then-kind-eq0

@@ -1,5 +1,4 @@
 -- `packed::read::filter_at` meets its contract: nine words, each read at its place.
-use borrow.Author.Rules.{rules}
 use Rattle.packed.proofs.read.filter_at.Goals as goal
 
 pub returns : goal.returns

@@ -1,6 +1,5 @@
 -- `packed::read::signed` meets its contract.
 use native.Mathlib.Omega.{arith}
-use borrow.Author.Rules.{rules}
 use mir.Syntax.{w64}
 use mir.ValLaws.{to_z_pos}
 use Rattle.packed.proofs.read.signed.Goals as goal

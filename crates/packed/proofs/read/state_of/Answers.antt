@@ -1,6 +1,5 @@
 -- `packed::read::state_of` meets its contract.
 use native.Mathlib.Omega.{arith}
-use borrow.Author.Rules.{rules}
 use Rattle.signs.proofs.Signs.{read}
 use Rattle.packed.proofs.read.state_of.Goals as goal
 

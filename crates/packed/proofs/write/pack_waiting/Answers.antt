@@ -1,6 +1,5 @@
 -- `packed::write::pack_waiting` meets its contract.
 use mathlib.Core.Path.{subst}
-use borrow.Author.Rules.{rules}
 use Rattle.voice.specs.declared.Waiting.{Waiting}
 use Rattle.voice.specs.Valid.{Waiting-valid}
 use Rattle.packed.specs.Parts.{filter_in}

@@ -1,6 +1,5 @@
 -- `strings::changes::ask` meets its contract: 24, or the call on the row.
 use native.Mathlib.Omega.{arith}
-use borrow.Author.Rules.{rules}
 use Rattle.rule.specs.Calls.{ask}
 use Rattle.rule.specs.Voice.{tuning}
 use Rattle.instrument.specs.Strings.{calls}

@@ -1,6 +1,5 @@
 -- `strings::changes::commit` meets its contract: 24, or the call on the row.
 use native.Mathlib.Omega.{arith}
-use borrow.Author.Rules.{rules}
 use Rattle.rule.specs.Calls.{commit}
 use Rattle.instrument.specs.Strings.{calls}
 use Rattle.strings.proofs.Rows.{called-above, called}

@@ -1,12 +1,10 @@
 -- `strings::changes::instant` meets its contract: 24 and the count 0, or the call on the row.
 use mathlib.Core.Path.{sym, ◌∙◌}
 use native.Mathlib.Omega.{arith}
-use borrow.Author.Rules.{rules}
-use borrow.Author.Tests.{lt-ltb}
 use Rattle.rule.specs.Calls as C
 use Rattle.rule.specs.Calls.{instant}
 use Rattle.rule.specs.Voice.{tuning}
-use Rattle.instrument.specs.Strings.{calls, counted}
+use Rattle.instrument.specs.Strings.{calls}
 use Rattle.instrument.proofs.Apart.{count-itself}
 use Rattle.strings.specs.Rows.{strings_of}
 use Rattle.strings.proofs.Rows.{played-above, played-still, none-counted}

@@ -1,6 +1,5 @@
 -- `strings::stores::load` meets its contract: 24, or the load on the row.
 use native.Mathlib.Omega.{arith}
-use borrow.Author.Rules.{rules}
 use Rattle.form.specs.Loads.{load_number, loads}
 use Rattle.instrument.specs.Strings as I
 use Rattle.strings.proofs.Rows.{played-above, played}

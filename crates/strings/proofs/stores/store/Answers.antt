@@ -2,7 +2,6 @@
 use mathlib.Core.Path.{sym, ◌∙◌}
 use Prim.Native.Nat.{◌≤◌, ◌<◌}
 use native.Mathlib.Omega.{arith}
-use borrow.Author.Rules.{rules}
 use Rattle.form.specs.Loads.{store_number}
 use Rattle.instrument.specs.Strings as I
 use Rattle.instrument.proofs.Apart.{number-itself, count-itself, lent-itself}
