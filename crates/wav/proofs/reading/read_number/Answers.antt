@@ -51,17 +51,12 @@ returns-then-not-rated c =
 pub returns-then-not-roomy : goal.returns-then-not-roomy
 returns-then-not-roomy c =
     let b = c.before.before.before.before in
-    sym
-    ((numbers b).room_for.1 (
-      (formed b).0 c.if-not-formed.false,
-      ((rates b).0 c.if-not-rated.false, λ f. clash c.if-not-roomy.true ((rooms b).1 f)),
-    ))
+    let f = (formed b).0 c.if-not-formed.false in
+    let t = (rates b).0 c.if-not-rated.false in
+    sym ((numbers b).room_for.1 (f, (t, λ r. clash c.if-not-roomy.true ((rooms b).1 r))))
 
 pub returns : goal.returns
 returns c =
-    let b = c.before.before.before.before in
-    sym
-    ((numbers b).accepted.1 (
-      (formed b).0 c.if-not-formed.false,
-      ((rates b).0 c.if-not-rated.false, (rooms b).0 c.if-not-roomy.false),
-    ))
+    let e = c.before.before.before.before in
+    let is = (formed e).0 c.if-not-formed.false in
+    sym ((numbers e).accepted.1 (is, ((rates e).0 c.if-not-rated.false, (rooms e).0 c.if-not-roomy.false)))
