@@ -11,5 +11,4 @@ use Rattle.console.proofs.answer.Goals as goal
 
 pub loop-turns-smaller : goal.loop-turns-smaller
 loop-turns-smaller c =
-    let l = c.before.before.before.before.before.before.before.before.before.before.before.before.before.before in
-    omega (arith, l.loop-turns-test.true)
+    omega (arith, c.loop-turns-test.true)

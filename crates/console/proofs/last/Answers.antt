@@ -8,5 +8,5 @@ use Rattle.console.proofs.last.Goals as goal
 
 pub slice_bounds-answered-end : goal.slice_bounds-answered-end
 slice_bounds-answered-end c =
-    let s = c.before.before.before.before.before.before.before.before in
-    sym (length-take-le s.args.k.held s.args.room.now (omega arith))
+    let a = c.args in
+    sym (length-take-le a.k.held a.room.now (omega arith))

@@ -12,8 +12,8 @@ slice_bounds-mix-end c =
 
 pub slice_bounds-mix-end-3 : goal.slice_bounds-mix-end-3
 slice_bounds-mix-end-3 c =
-    let s = c.before.before.before.before.before in
-    sym (length-take-le s.args.places s.args.output.now s.requires.2)
+    let a = c.args in
+    sym (length-take-le a.places a.output.now c.requires.2)
 
 pub returns : goal.returns
-returns c = c.mix.ensures.0.voices
+returns c = c.mix.ensures.played.voices

@@ -4,7 +4,4 @@ use borrow.Author.Rules.{rules}
 use Rattle.console.proofs.instruments.string_line.Goals as goal
 
 pub past-requires : goal.past-requires
-past-requires c =
-    let u = c.before.before in
-    let s = u.before.before.before in
-    rw u.unpack-h.ensures (s.requires.valid s.args.string (omega arith)).fit.at
+past-requires c = rw c.unpack-h.ensures (c.requires.valid c.args.string (omega arith)).fit.at

@@ -14,11 +14,11 @@ use Rattle.console.proofs.lines.whole.Goals as goal
 
 pub slice_bounds-one-end : goal.slice_bounds-one-end
 slice_bounds-one-end c =
-    let e = c.before.before.before.before.before.before.before.before in
-    sym (length-take-le e.before-e.result e.loop-at.t.now e.before-e.ensures.within)
+    let e = c.before-e in
+    sym (length-take-le e.result c.loop-at.t.now e.ensures.within)
 
 pub loop-at-preserved : goal.loop-at-preserved
 loop-at-preserved c =
     let l = c.loop-at in
     let r = c.one-r.ensures in
-    (r.0, r.1, r.2, omega (arith, loop-less c, l.invariant.3))
+    (r.0, r.1, r.2, omega (arith, l.invariant.3))

@@ -17,5 +17,5 @@ slice_bounds-merge-end-2 c =
 
 pub slice_bounds-merge-end-4 : goal.slice_bounds-merge-end-4
 slice_bounds-merge-end-4 c =
-    let s = c.before.before.before.before.before.before in
-    sym (length-take-le s.args.places s.args.lent.now s.requires.2)
+    let a = c.args in
+    sym (length-take-le a.places a.lent.now c.requires.2)

@@ -5,6 +5,4 @@ use borrow.Author.Rules.{rules}
 use Rattle.console.proofs.rows.load_string.Goals as goal
 
 pub returns : goal.returns
-returns c =
-    let s = c.before.before.before.before.before in
-    row-set s.args.string _ _ s.requires.0 (omega arith) c.Load-row.ensures
+returns c = row-set c.args.string _ _ c.requires.0 (omega arith) c.load_row.ensures

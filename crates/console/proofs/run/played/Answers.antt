@@ -13,5 +13,5 @@ slice_bounds-run-end c =
 
 pub slice_bounds-run-end-3 : goal.slice_bounds-run-end-3
 slice_bounds-run-end-3 c =
-    let s = c.before.before.before in
-    sym (length-take-le s.args.places s.args.output.now s.requires.1)
+    let a = c.args in
+    sym (length-take-le a.places a.output.now c.requires.1)

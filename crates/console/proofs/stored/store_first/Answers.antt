@@ -6,5 +6,5 @@ use Rattle.console.proofs.stored.store_first.Goals as goal
 
 pub slice_bounds-store-end-2 : goal.slice_bounds-store-end-2
 slice_bounds-store-end-2 c =
-    let s = c.before.before in
-    sym (length-take-le s.args.places s.args.room.now s.requires.1)
+    let a = c.args in
+    sym (length-take-le a.places a.room.now c.requires.1)

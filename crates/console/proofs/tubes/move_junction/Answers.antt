@@ -6,4 +6,4 @@ pub start_move-a-requires : goal.start_move-a-requires
 start_move-a-requires c = rw c.unpack-j.ensures c.requires
 
 pub returns : goal.returns
-returns c = rw c.pack-w.ensures c.start_Move.ensures.1
+returns c = rw c.pack-w.ensures c.start_move-a.ensures.1

@@ -3,4 +3,4 @@ use borrow.Author.Rules.{rules}
 use Rattle.console.proofs.tubes.open_junction.Goals as goal
 
 pub returns : goal.returns
-returns c = rw c.pack-w.ensures c.before.before.«open».ensures.1
+returns c = rw c.pack-w.ensures c.open-a.ensures.1

@@ -6,6 +6,4 @@ pub sample-s-requires : goal.sample-s-requires
 sample-s-requires c = rw c.unpack-j.ensures c.requires
 
 pub returns : goal.returns
-returns c =
-    let p = c.before.before.before.before.before.before.before.before in
-    rw p.pack-w.ensures p.sample-s.ensures.1
+returns c = rw c.pack-w.ensures c.sample-s.ensures.1
