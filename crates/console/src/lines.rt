@@ -6,7 +6,7 @@ ghost use Rattle.tube.specs.Valid.{Valid as Joined};
 ghost use Rattle.tube.specs.Words.{from_words};
 ghost use Rattle.strings.specs.Rows.{Voices};
 
-use crate::kept::{Kept, ROOM, rest, written};
+use crate::held::{Kept, ROOM, rest, written};
 use crate::turn::answered;
 use crate::voices::Turn;
 use print::Out;

@@ -10,8 +10,8 @@ ghost use Rattle.tube.specs.Words.{from_words};
 ghost use Rattle.strings.specs.Rows.{Voices};
 
 mod calls;
+mod held;
 mod instruments;
-mod kept;
 mod lines;
 mod merges;
 mod rows;
@@ -24,8 +24,8 @@ mod turn;
 mod voices;
 
 use calls::opened;
+use held::{Kept, ROOM};
 use input::more;
-use kept::{Kept, ROOM};
 use lines::came;
 use print::{Out, complain, flush};
 use request::kinds::EMPTY;
