@@ -7,6 +7,8 @@ start_move-a-requires c = rw c.unpack-j.ensures c.requires
 
 pub returns : goal.returns
 returns c =
-    let a = c.before.before in
-    let e = a.unpack-j.ensures in
-    rw (← e, c.pack-w.ensures) a.start_Move.ensures
+    let e = c.unpack-j.ensures in
+    record {
+      junction_after = rw (← e, c.pack-w.ensures) c.start_move-a.ensures.0;
+      valid = rw c.pack-w.ensures c.start_move-a.ensures.1;
+    }

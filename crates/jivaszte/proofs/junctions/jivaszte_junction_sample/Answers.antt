@@ -41,13 +41,15 @@ sample-s-requires c = rw c.unpack-j.ensures c.requires
 
 pub returns : goal.returns
 returns c =
-    let t = c.before.before.before.before in
-    let s = t.before.before.before in
-    let j = junction_of t.unpack-j.result in
-    let x : Two ℤ = record { a = s.args.a; b = s.args.b } in
-    let e = rw (to_z-of_z s.ranges.a, to_z-of_z s.ranges.b) at t.sample-s.ensures in
+    let s = c.sample-s in
+    let j = junction_of c.unpack-j.result in
+    let x : Two ℤ = record { a = c.args.a; b = c.args.b } in
+    let e = rw (to_z-of_z c.ranges.a, to_z-of_z c.ranges.b) at s.ensures in
     let w = answer-small j x in
     let o = (answer j (sample x)).outputs in
-    let right = fits t.sample-s.result.right.n o.right (ap (λ (k : Answer). k.outputs.right) e.0) w.0 in
-    let left = fits t.sample-s.result.left.n o.left (ap (λ (k : Answer). k.outputs.left) e.0) w.1 in
-    rw (to_z-of_z right, to_z-of_z left, ← t.unpack-j.ensures, c.pack-w.ensures) e
+    let right = fits s.result.right.n o.right (ap (λ (k : Answer). k.outputs.right) e.0) w.0 in
+    let left = fits s.result.left.n o.left (ap (λ (k : Answer). k.outputs.left) e.0) w.1 in
+    record {
+      junction_after = rw (to_z-of_z right, to_z-of_z left, ← c.unpack-j.ensures, c.pack-w.ensures) e.0;
+      valid = rw c.pack-w.ensures e.1;
+    }
