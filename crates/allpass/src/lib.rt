@@ -21,7 +21,7 @@ pub struct State {
     pub v3: i64,
 }
 
-// What `effective_length` returns: refusal is 0 for success.
+// What `effective_length` returns: refusal is 0 for success, and no Result, since C gets this struct by value.
 #[derive(Clone, Copy)]
 pub struct Measured {
     pub refusal: u32,
@@ -70,10 +70,9 @@ pub fn kept(order: u32, v: State) -> State
 pub fn effective_length(order: u32, d: u32, threshold: u32) -> Measured
     ensures { result ≡ effective_length order d threshold }
 {
-    let code = thiran::refused(order, d);
-    if code != 0 {
+    if let Err(refusal) = thiran::refused(order, d) {
         return Measured {
-            refusal: code,
+            refusal: refusal.number(),
             length: 0,
         };
     }

@@ -4,7 +4,7 @@ use Rattle.std.specs.Prelude.{cond, ℕ, eqb}
 use Rattle.voice.specs.declared.Waiting.{Waiting}
 use Rattle.voice.specs.declared.Waiting.TheVariants.{Idle, Prepared}
 use Rattle.voice.specs.declared.Head.{Head}
-use Rattle.voice.specs.declared.Answer.{Answer}
+use Rattle.voice.specs.Called.{Answer}
 use Rattle.voice.specs.Struct.{with_of}
 
 -- L3: "committing switches before the next sample"

@@ -3,7 +3,7 @@
 use Rattle.std.specs.Prelude.{cond, eqb}
 use Rattle.voice.specs.declared.Kind.{Kind}
 use Rattle.voice.specs.declared.Head.{Head}
-use Rattle.voice.specs.declared.Answer.{Answer}
+use Rattle.voice.specs.Called.{Answer}
 use Rattle.voice.specs.Struct.{settled_of}
 use Rattle.change.specs.declared.Start.{Start}
 

@@ -13,7 +13,7 @@ use Rattle.rule.specs.Voice.{tuning}
 use Rattle.rule.specs.Calls.{Call, announce, instant}
 use Rattle.rule.specs.State.{State, from}
 use Rattle.voice.specs.declared.Head.{Head}
-use Rattle.voice.specs.declared.Answer.{Answer}
+use Rattle.voice.specs.Called.{Answer}
 use Rattle.voice.specs.Struct.{state_of}
 use Rattle.voice.specs.Valid.{Valid}
 use Rattle.voice.specs.Called.{On}

@@ -8,7 +8,7 @@ use lib.ListN.{replicate}
 use Rattle.rule.specs.Calls.{Call}
 use Rattle.rule.specs.State.{block_after, block_out, puts}
 use Rattle.voice.specs.declared.Head.{Head}
-use Rattle.voice.specs.declared.Answer.{Answer}
+use Rattle.voice.specs.Called.{Answer}
 use Rattle.voice.specs.Struct.{state_of}
 use Rattle.voice.specs.Valid.{Valid}
 use Rattle.follow.specs.Follow.{value, wait_calls, act_calls, record_calls}

@@ -4,7 +4,7 @@ use Rattle.std.specs.Prelude.{◌≡◌, List, ℤ}
 use Rattle.rule.specs.Calls.{Call}
 use Rattle.rule.specs.State.{from}
 use Rattle.voice.specs.declared.Head.{Head}
-use Rattle.voice.specs.declared.Answer.{Answer}
+use Rattle.voice.specs.Called.{Answer}
 use Rattle.voice.specs.Struct.{state_of}
 use Rattle.voice.specs.Valid.{Valid}
 use Rattle.follow.specs.Follow.{result}

@@ -19,7 +19,7 @@ use Rattle.rule.specs.State.{State, step, sounds, call, put, silence}
 use Rattle.rule.specs.Click.{instantly}
 use Rattle.rule.proofs.Ruling.{none-block}
 use Rattle.voice.specs.declared.Head.{Head}
-use Rattle.voice.specs.declared.Answer.{Answer}
+use Rattle.voice.specs.Called.{Answer}
 use Rattle.voice.specs.Struct.{voice_of, state_of}
 use Rattle.voice.specs.Valid.{Fit, Valid}
 use Rattle.voice.specs.Called.{Called, On, lent}

@@ -1,7 +1,7 @@
 -- What a call on a voice in lent memory returned and left, as what the call by value returns: the contracts
 -- of crates open, change and block then speak of `head_of` of the words before and after.
 use Rattle.std.specs.Prelude.{List, ℕ, ℤ}
-use Rattle.voice.specs.declared.Answer.{Answer}
+use Rattle.voice.specs.Called.{Answer}
 use Rattle.open.specs.declared.Opened.{Opened}
 use Rattle.packed.specs.Words.{head_of}
 

@@ -16,7 +16,7 @@ use Rattle.rule.specs.Voice.{Voice}
 use Rattle.rule.proofs.Puts.{put-none}
 use Rattle.voice.specs.declared.Head.{Head}
 use Rattle.voice.specs.Struct.{state_of, voice_of}
-use Rattle.voice.specs.declared.Answer.{Answer}
+use Rattle.voice.specs.Called.{Answer}
 use Rattle.voice.specs.Called.{Called, On, lent}
 use Rattle.change.specs.declared.Changed.{Changed}
 use Rattle.list.specs.Words.{called, last_kind}

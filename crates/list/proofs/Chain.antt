@@ -18,7 +18,7 @@ use Rattle.rule.proofs.Refusals.{refuses}
 use Rattle.rule.proofs.Puts.{put-none}
 use Rattle.rule.proofs.Click.{click, own_click}
 use Rattle.voice.specs.declared.Head.{Head}
-use Rattle.voice.specs.declared.Answer.{Answer}
+use Rattle.voice.specs.Called.{Answer}
 use Rattle.voice.specs.Struct.{voice_of, state_of}
 use Rattle.voice.specs.Valid.{Valid}
 use Rattle.voice.specs.Called.{On, lent}

@@ -12,7 +12,7 @@ use lib.ListN.{length, take, drop, set, take-append-drop}
 use Rattle.rule.specs.Calls.{Call, prepare}
 use Rattle.rule.specs.State.{State, put}
 use Rattle.rule.specs.Voice.{tuning}
-use Rattle.voice.specs.declared.Answer.{Answer}
+use Rattle.voice.specs.Called.{Answer}
 use Rattle.voice.specs.declared.Head.{Head}
 use Rattle.voice.specs.declared.Kind.{Kind}
 use Rattle.voice.specs.declared.Kind.TheVariants.{Announced, Asked}

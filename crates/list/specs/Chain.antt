@@ -7,7 +7,7 @@ use Rattle.rule.specs.State.{fresh, from, puts, numbers, counts}
 use Rattle.rule.specs.Click.{ClickFigure}
 use Rattle.rule.specs.OwnFigure.{OwnClickFigure}
 use Rattle.voice.specs.declared.Head.{Head}
-use Rattle.voice.specs.declared.Answer.{Answer}
+use Rattle.voice.specs.Called.{Answer}
 use Rattle.voice.specs.Struct.{state_of}
 use Rattle.voice.specs.Valid.{Valid}
 use Rattle.voice.specs.Called.{Called, On, lent}

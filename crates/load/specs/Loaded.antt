@@ -8,7 +8,7 @@ use Rattle.rule.specs.Voice.{Tuning}
 use Rattle.allpass.specs.declared.State.{State as Three}
 use Rattle.voice.specs.declared.Filter.{Filter}
 use Rattle.voice.specs.declared.Head.{Head}
-use Rattle.voice.specs.declared.Answer.{Answer}
+use Rattle.voice.specs.Called.{Answer}
 use Rattle.load.specs.declared.words.Words.{Words}
 use Rattle.load.specs.declared.Shown.{Shown}
 use Rattle.load.specs.Words.{numbers_of}

@@ -2,14 +2,26 @@
 -- Definitions alone. Assumes nothing.
 use Rattle.std.specs.Prelude.{◌≡◌}
 use Rattle.refusal.specs.Limits.{refusal}
-use Rattle.rule.specs.Calls.{Opening, open_limits}
+use Rattle.refusal.specs.Numbers.{code_of}
+use Rattle.rule.specs.Calls as Rule
+use Rattle.rule.specs.Calls.{open_limits}
 use Rattle.rule.specs.State.{fresh}
 use Rattle.voice.specs.Struct.{state_of}
 use Rattle.voice.specs.Valid.{Valid}
+use Rattle.open.specs.declared.Opening.{Opening}
 use Rattle.open.specs.declared.Opened.{Opened}
 
+abbrev pub opening_of : Opening → Rule.Opening
+opening_of o = record {
+  N = o.tuning.order;
+  L = o.tuning.length;
+  d = o.tuning.delay;
+  G = o.loss;
+  Na = o.advance;
+}
+
 -- Open: its number, and the voice, "a resting voice .." where it refuses
-pub record Opens (o : Opening) (r : Opened) : Type 0 where
-  pub number : r.refusal ≡ refusal (open_limits o)
+pub record Opens (o : Rule.Opening) (r : Opened) : Type 0 where
+  pub number : code_of r.answer ≡ refusal (open_limits o)
   pub state : state_of r.voice.head r.voice.line ≡ fresh o
   pub valid : Valid r.voice.head r.voice.line

@@ -2,53 +2,26 @@
 // Neither reads or writes the line.
 ghost use Rattle.rule.specs.Calls.{loss as Loss, pluck as Plucking};
 ghost use Rattle.voice.specs.Valid.{Fit};
-ghost use Rattle.voice.specs.Called.{Called};
+ghost use Rattle.voice.specs.Called.{Called, answered};
 
-use refusal::tested;
-use voice::{Answer, Head, Pluck};
+use refusal::{LONGEST_PLUCK, LOUDEST_PLUCK, MOST_LOSS, Refusal, within};
+use voice::{Head, Pluck};
 
 // Sets the loss.
-pub fn loss(head: Head, g: u32) -> Answer
+pub fn loss(head: Head, g: u32) -> Result<Head, Refusal>
     requires { Fit head }
-    ensures { Called head (Loss g) result }
+    ensures { Called head (Loss g) (answered head result) }
 {
-    let code = tested(0, refusal::LOSS, g, 0, refusal::MOST_LOSS);
-    if code != 0 {
-        return Answer {
-            refusal: code,
-            head: head,
-        };
-    }
-    let mut h = head;
-    h.loss = g;
-    Answer {
-        refusal: 0,
-        head: h,
-    }
+    within(Refusal::Loss, g, 0, MOST_LOSS)?;
+    Ok(Head { loss: g, ..head })
 }
 
 // Starts a pluck in place of the rest of the old one.
-pub fn pluck(head: Head, amplitude: u32, count: u32, seed: u32) -> Answer
+pub fn pluck(head: Head, pluck: Pluck) -> Result<Head, Refusal>
     requires { Fit head }
-    ensures { Called head (Plucking amplitude count seed) result }
+    ensures { Called head (Plucking pluck.amplitude pluck.left pluck.noise) (answered head result) }
 {
-    let a = tested(0, refusal::AMPLITUDE, amplitude, 0, refusal::LOUDEST_PLUCK);
-    let code = tested(a, refusal::COUNT, count, 1, refusal::LONGEST_PLUCK);
-    if code != 0 {
-        return Answer {
-            refusal: code,
-            head: head,
-        };
-    }
-    let p = Pluck {
-        amplitude: amplitude,
-        left: count,
-        noise: seed,
-    };
-    let mut h = head;
-    h.pluck = p;
-    Answer {
-        refusal: 0,
-        head: h,
-    }
+    within(Refusal::Amplitude, pluck.amplitude, 0, LOUDEST_PLUCK)?;
+    within(Refusal::Count, pluck.left, 1, LONGEST_PLUCK)?;
+    Ok(Head { pluck, ..head })
 }

@@ -3,19 +3,28 @@
 #![tactic(auto)]
 
 ghost use Rattle.std.specs.Prelude.{◌≡◌};
-ghost use Rattle.refusal.specs.Limits.{refusal};
+ghost use Rattle.refusal.specs.Limits.{refusal as First};
+ghost use Rattle.refusal.specs.Numbers.{code_of};
 ghost use Rattle.refusal.specs.Returned.{AllKept};
 ghost use Rattle.rule.specs.Calls.{open_limits, resting as resting_voice};
 ghost use Rattle.rule.specs.State.{silence};
 ghost use Rattle.voice.specs.Struct.{state_of};
 ghost use Rattle.voice.specs.Valid.{Valid};
-ghost use Rattle.open.specs.Opened.{Opens};
+ghost use Rattle.open.specs.Opened.{opening_of, Opens};
 
 use integer::Value;
-use refusal::tested;
-use voice::{Head, Pluck, Waiting, resting, untuned};
+use refusal::{MOST_ADVANCE, MOST_LOSS, Refusal, within};
+use voice::{Head, Pluck, Tuning, Waiting, resting, untuned};
 
 pub mod calls;
+
+// What a voice is opened with.
+#[derive(Clone, Copy)]
+pub struct Opening {
+    pub tuning: Tuning,
+    pub loss: u32,
+    pub advance: u32,
+}
 
 #[derive(Clone, Copy)]
 pub struct Voice {
@@ -23,69 +32,68 @@ pub struct Voice {
     pub line: [i32; 2112],
 }
 
+// What Open returns: not a Result of a voice, since a refused opening has a voice too.
 #[derive(Clone, Copy)]
 pub struct Opened {
-    pub refusal: u32,
+    pub answer: Result<(), Refusal>,
     pub voice: Voice,
 }
 
-// What an opening is refused by: 1, 2, 3, 4, 5, else 0.
-fn refused(order: u32, length: u32, delay: u32, loss: u32, advance: u32) -> u32
-    ensures { result
-        ≡ refusal (open_limits (record { N = order; L = length; d = delay; G = loss; Na = advance })) }
+// What document 01's voice of a refused opening is opened with.
+const REFUSED: Opening = Opening {
+    tuning: Tuning {
+        order: 1,
+        length: 1,
+        delay: 4_096,
+    },
+    loss: 0,
+    advance: 0,
+};
+
+// What an opening is refused by: 1, 2, 3, 4, 5.
+pub fn refused(o: Opening) -> Result<(), Refusal>
+    ensures { code_of result ≡ First (open_limits (opening_of o)) }
 {
-    let a = untuned(order, length, delay);
-    let b = tested(a, refusal::LOSS, loss, 0, refusal::MOST_LOSS);
-    tested(b, refusal::ADVANCE, advance, 0, refusal::MOST_ADVANCE)
+    untuned(o.tuning)?;
+    within(Refusal::Loss, o.loss, 0, MOST_LOSS)?;
+    within(Refusal::Advance, o.advance, 0, MOST_ADVANCE)
 }
 
 // A resting voice.
-fn fresh(order: u32, length: u32, delay: u32, loss: u32, advance: u32) -> Voice
-    requires { AllKept
-        (open_limits (record { N = order; L = length; d = delay; G = loss; Na = advance })) }
+fn fresh(o: Opening) -> Voice
+    requires { AllKept (open_limits (opening_of o)) }
     ensures line_value { state_of result.head result.line ≡ record {
-      voice = resting_voice (record { N = order; L = length; d = delay }) loss advance;
+      voice = resting_voice (record { N = o.tuning.order; L = o.tuning.length; d = o.tuning.delay }) o.loss o.advance;
       line = silence;
     } }
     ensures valid { Valid result.head result.line }
 {
-    let filter = resting(order, length, delay);
-    let p = Pluck {
-        amplitude: 0,
-        left: 0,
-        noise: 0,
-    };
-    let y = Value { n: 0 };
-    let head = Head {
-        filter: filter,
-        loss: loss,
-        advance: advance,
-        last: y,
-        waiting: Waiting::Idle,
-        pluck: p,
-        at: 0,
-    };
     Voice {
-        head: head,
+        head: Head {
+            filter: resting(o.tuning),
+            loss: o.loss,
+            advance: o.advance,
+            last: Value { n: 0 },
+            waiting: Waiting::Idle,
+            pluck: Pluck {
+                amplitude: 0,
+                left: 0,
+                noise: 0,
+            },
+            at: 0,
+        },
         line: [0; 2112],
     }
 }
 
 // Open.
-pub fn open(order: u32, length: u32, delay: u32, loss: u32, advance: u32) -> Opened
-    ensures { Opens (record { N = order; L = length; d = delay; G = loss; Na = advance }) result }
+pub fn open(o: Opening) -> Opened
+    ensures { Opens (opening_of o) result }
 {
-    let code = refused(order, length, delay, loss, advance);
-    if code != 0 {
-        let v = fresh(1, 1, 4_096, 0, 0);
-        return Opened {
-            refusal: code,
-            voice: v,
-        };
-    }
-    let v = fresh(order, length, delay, loss, advance);
+    let answer = refused(o);
+    let kept = if answer.is_ok() { o } else { REFUSED };
     Opened {
-        refusal: 0,
-        voice: v,
+        answer,
+        voice: fresh(kept),
     }
 }

@@ -1,3 +1,4 @@
+pub mod Numbers
 pub mod Passed
 pub mod Returned
 pub mod Tests

@@ -1,4 +1,5 @@
 pub mod Limits
+pub mod Numbers
 pub mod Orders
 pub mod Ranges
 pub mod Returned

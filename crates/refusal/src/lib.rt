@@ -1,70 +1,56 @@
-// The numbers by which the calls of documents 01 and 02 refuse, and the tests that give them, one after the other.
-// What a call returns is the first number, in the order listed, whose test is met (specs/Limits.antt).
+// The refusals of the calls of documents 01 and 02, each with its number there, and the tests that give them, one after
+// the other. What a call is refused by is the first, in the order listed, whose test is met (specs/Limits.antt).
 #![tactic(auto)]
 
-ghost use Rattle.std.specs.Prelude.{◌≡◌};
-ghost use Rattle.refusal.specs.Limits.{outside as Outside};
-ghost use Rattle.refusal.specs.Returned.{Tests};
+ghost use Rattle.std.specs.Prelude.{◌≡◌, [], ◌∷◌};
+ghost use Rattle.refusal.specs.Limits.{outside as Outside, refusal as First};
+ghost use Rattle.refusal.specs.Numbers.{number_of, code_of};
 
-pub const ORDER: u32 = 1;
+// What turns a call down, with its number.
+#[derive(Clone, Copy, PartialEq, Eq)]
+pub enum Refusal {
+    Order = 1,
+    Length = 2,
+    Delay = 3,
+    Loss = 4,
+    Advance = 5,
+    ChangeWaits = 6,
+    Amplitude = 7,
+    Count = 8,
+    BlockLengths = 9,
+    Sample = 10,
+    Rate = 11,
+    Note = 12,
+    NoteLength = 13,
+    CutShort = 14,
+    BitMap = 15,
+    OutputFull = 16,
+    RecordingRate = 17,
+    Room = 18,
+    FileForm = 19,
+    TooEarly = 20,
+    NothingAsked = 21,
+    StoredLength = 22,
+    StoredPart = 23,
+    NoString = 24,
+    Area = 25,
+    NotFinite = 26,
+    FloatRange = 27,
+    Headers = 28,
+    Alone = 29,
+    Merge = 30,
+    ListForm = 31,
+    NoAdvance = 32,
+}
 
-pub const LENGTH: u32 = 2;
-
-pub const DELAY: u32 = 3;
-
-pub const LOSS: u32 = 4;
-
-pub const ADVANCE: u32 = 5;
-
-pub const CHANGE_WAITS: u32 = 6;
-
-pub const AMPLITUDE: u32 = 7;
-
-pub const COUNT: u32 = 8;
-
-pub const BLOCK_LENGTHS: u32 = 9;
-
-pub const SAMPLE: u32 = 10;
-
-pub const RATE: u32 = 11;
-
-pub const NOTE: u32 = 12;
-
-pub const NOTE_LENGTH: u32 = 13;
-
-pub const CUT_SHORT: u32 = 14;
-
-pub const BIT_MAP: u32 = 15;
-
-pub const OUTPUT_FULL: u32 = 16;
-
-pub const RECORDING_RATE: u32 = 17;
-
-pub const ROOM: u32 = 18;
-
-pub const FILE_FORM: u32 = 19;
-
-pub const TOO_EARLY: u32 = 20;
-
-pub const NOTHING_ASKED: u32 = 21;
-
-pub const STORED_LENGTH: u32 = 22;
-
-pub const STORED_PART: u32 = 23;
-
-pub const STRING: u32 = 24;
-
-pub const AREA: u32 = 25;
-
-pub const NOT_FINITE: u32 = 26;
-
-pub const FLOAT_RANGE: u32 = 27;
-
-pub const HEADERS: u32 = 28;
-
-pub const ALONE: u32 = 29;
-
-pub const MERGE: u32 = 30;
+impl Refusal {
+    // Its number.
+    pub fn number(self) -> u32
+        ensures { result ≡ number_of self }
+    {
+        self as u32
+    }
+}
 
 // The greatest order, length, loss, advance, amplitude and count that are let pass.
 pub const ORDERS: u32 = 3;
@@ -86,15 +72,23 @@ pub fn outside(n: u32, low: u32, high: u32) -> bool
     n < low || high < n
 }
 
-// What the tests so far gave, and where that is 0 the number of one more whose value is outside its limits.
-pub fn tested(code: u32, number: u32, value: u32, low: u32, high: u32) -> u32
-    ensures { Tests code (record { number = number; low = low; value = value; high = high }) result }
+// A test: the value is from low to high, or refused.
+pub fn within(refusal: Refusal, value: u32, low: u32, high: u32) -> Result<(), Refusal>
+    ensures { code_of result
+        ≡ First (record { number = number_of refusal; low = low; value = value; high = high } ∷ []) }
 {
-    if code != 0 {
-        return code;
-    }
     if outside(value, low, high) {
-        return number;
+        return Err(refusal);
     }
-    0
+    Ok(())
+}
+
+// The number by which a call is refused, 0 for success: what C gets.
+pub fn code(answer: Result<(), Refusal>) -> u32
+    ensures { result ≡ code_of answer }
+{
+    match answer {
+        Ok(()) => 0,
+        Err(refusal) => refusal.number(),
+    }
 }

@@ -3,7 +3,7 @@
 -- with stores and loads between them, are a list. proofs/Resumes.antt proves `Resumes`.
 use Rattle.std.specs.Prelude.{◌≡◌, List, ℕ, ℤ, length, take}
 use Rattle.voice.specs.declared.Head.{Head}
-use Rattle.voice.specs.declared.Answer.{Answer}
+use Rattle.voice.specs.Called.{Answer}
 use Rattle.voice.specs.Struct.{state_of}
 use Rattle.voice.specs.Valid.{Valid}
 use Rattle.store.specs.declared.Kept.{Kept}

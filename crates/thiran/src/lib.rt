@@ -3,12 +3,15 @@
 #![tactic(auto)]
 
 ghost use Rattle.std.specs.Prelude.{◌≡◌};
-ghost use Rattle.refusal.specs.Limits.{refusal};
+ghost use Rattle.refusal.specs.Limits.{refusal as First};
+ghost use Rattle.refusal.specs.Numbers.{code_of};
 ghost use Rattle.thiran.specs.Answers.{limits, design};
+
+use refusal::{ORDERS, Refusal, within};
 
 pub mod formula;
 
-// What `coefficients` returns: refusal is 0 for success.
+// What `coefficients` returns: refusal is 0 for success, and no Result, since C gets this struct by value.
 #[derive(Clone, Copy)]
 pub struct Design {
     pub refusal: u32,
@@ -17,27 +20,21 @@ pub struct Design {
     pub a3: i32,
 }
 
-// What an order and a delay are refused by: 1, 3, else 0.
-pub fn refused(order: u32, d: u32) -> u32
-    ensures { result ≡ refusal (limits order d) }
+// What an order and a delay are refused by: 1, 3.
+pub fn refused(order: u32, d: u32) -> Result<(), Refusal>
+    ensures { code_of result ≡ First (limits order d) }
 {
-    if refusal::outside(order, 1, refusal::ORDERS) {
-        return refusal::ORDER;
-    }
-    if refusal::outside(d, 4_096 * order - 2_047, 4_096 * order + 2_048) {
-        return refusal::DELAY;
-    }
-    0
+    within(Refusal::Order, order, 1, ORDERS)?;
+    within(Refusal::Delay, d, 4_096 * order - 2_047, 4_096 * order + 2_048)
 }
 
 // A1, A2 and A3 of an order and a delay: 0 past the order, and all 0 where they are refused.
 pub fn coefficients(order: u32, d: u32) -> Design
     ensures { result ≡ design order d }
 {
-    let code = refused(order, d);
-    if code != 0 {
+    if let Err(refusal) = refused(order, d) {
         return Design {
-            refusal: code,
+            refusal: refusal.number(),
             a1: 0,
             a2: 0,
             a3: 0,

@@ -8,6 +8,10 @@ use lib.IntN.{ℤ}
 use Rattle.integer.specs.Rounding.{M}
 use Rattle.allpass.specs.Bounds.{Within}
 use Rattle.line.specs.Ring.{ring}
+use Rattle.std.specs.Prelude.{Result, Ok, Err}
+use Rattle.refusal.specs.declared.Refusal.{Refusal}
+use Rattle.refusal.specs.Numbers.{number_of}
+use Rattle.refusal.proofs.Numbers.{refused-above}
 use Rattle.rule.specs.Voice.{Tuning, tuned}
 use Rattle.rule.specs.Calls.{Call, number, done, inputs}
 use Rattle.rule.specs.State.{State, back, block_after, told, call}
@@ -15,10 +19,9 @@ use Rattle.voice.specs.declared.Filter.{Filter}
 use Rattle.voice.specs.declared.Waiting.{Waiting}
 use Rattle.voice.specs.declared.Pluck.{Pluck}
 use Rattle.voice.specs.declared.Head.{Head}
-use Rattle.voice.specs.declared.Answer.{Answer}
 use Rattle.voice.specs.Struct.{tuning_of, filter_of, waiting_of, voice_of, state_of}
 use Rattle.voice.specs.Valid.{Tuned, Waiting-valid, Plucked, Fit}
-use Rattle.voice.specs.Called.{Called, On}
+use Rattle.voice.specs.Called.{Answer, answered, Called, On}
 
 module _ (v : State) (c : Call) where
   pub call-refused : (number v.voice c ≡ 0 → ⊥) → call v c ≡ v
@@ -68,6 +71,11 @@ module _ (h : Head) (c : Call) where
     fit = fit;
     place = refl;
   }
+
+  -- r is what it is refused by
+  pub called-err : {x : Result Head Refusal} (r : Refusal) → Fit h → x ≡ Err r
+      → number_of r ≡ number (voice_of h) c → Called h c (answered h x)
+  called-err r fit i e = rw i (called-refused fit e (refused-above r))
 
   -- r is what an accepted one makes of h
   module _ (r : Head) {k : ℕ} (still : inputs c ≡ []) (e : k ≡ number (voice_of h) c) (z : k ≡ 0)

@@ -3,7 +3,8 @@
 #![tactic(auto)]
 
 ghost use Rattle.std.specs.Prelude.{◌≡◌, [], ◌∷◌, ◌≤◌};
-ghost use Rattle.refusal.specs.Limits.{refusal};
+ghost use Rattle.refusal.specs.Limits.{refusal as First};
+ghost use Rattle.refusal.specs.Numbers.{code_of};
 ghost use Rattle.refusal.specs.Orders.{Takes, orders, order as Order, delay as Delay};
 ghost use Rattle.rule.specs.Tests.{long};
 ghost use Rattle.rule.specs.Voice.{commits as Commits};
@@ -12,6 +13,7 @@ ghost use Rattle.voice.specs.Called.{Rests};
 
 use allpass::{State, at_rest};
 use integer::Value;
+use refusal::{LONGEST, ORDERS, Refusal, within};
 use thiran::formula::Coefficients;
 
 #[derive(Clone, Copy)]
@@ -63,27 +65,14 @@ pub struct Head {
     pub at: usize,
 }
 
-// What a call returns: a refusal is document 01's number, and 0 for success.
-#[derive(Clone, Copy)]
-pub struct Answer {
-    pub refusal: u32,
-    pub head: Head,
-}
-
 // h with another filter in force and another change waiting.
 pub fn with(h: Head, filter: Filter, waiting: Waiting) -> Head
     ensures { result ≡ with_of h filter waiting }
 {
-    let y = h.last;
-    let p = h.pluck;
     Head {
-        filter: filter,
-        loss: h.loss,
-        advance: h.advance,
-        last: y,
-        waiting: waiting,
-        pluck: p,
-        at: h.at,
+        filter,
+        waiting,
+        ..h
     }
 }
 
@@ -110,40 +99,32 @@ pub fn settle(h: Head, kind: Kind, e: Filter, taken: u32) -> Head
 }
 
 // The filter of a tuning, at rest.
-pub fn resting(order: u32, length: u32, delay: u32) -> Filter
-    requires { Takes order delay × (1 ≤ length) × (length ≤ 2048) }
-    ensures { Rests order length delay result }
+pub fn resting(tuning: Tuning) -> Filter
+    requires { Takes tuning.order tuning.delay × (1 ≤ tuning.length) × (tuning.length ≤ 2048) }
+    ensures { Rests tuning.order tuning.length tuning.delay result }
 {
-    let c = thiran::formula::set(order, delay);
-    let t = Tuning {
-        order: order,
-        length: length,
-        delay: delay,
-    };
-    let s = at_rest();
     Filter {
-        tuning: t,
-        coefficients: c,
-        state: s,
+        tuning,
+        coefficients: thiran::formula::set(tuning.order, tuning.delay),
+        state: at_rest(),
     }
 }
 
-// What a length and a delay are refused by in an order that there is: 2, 3, else 0.
-fn in_order(order: u32, length: u32, delay: u32) -> u32
-    requires { (1 ≤ order) × (order ≤ orders) }
-    ensures { result ≡ refusal (long length ∷ Delay order delay ∷ []) }
+// What a length and a delay are refused by in an order that there is: 2, 3.
+fn in_order(tuning: Tuning) -> Result<(), Refusal>
+    requires { (1 ≤ tuning.order) × (tuning.order ≤ orders) }
+    ensures { code_of result ≡ First (long tuning.length ∷ Delay tuning.order tuning.delay ∷ []) }
 {
-    let code = refusal::tested(0, refusal::LENGTH, length, 1, refusal::LONGEST);
-    let middle = 4_096 * order;
-    refusal::tested(code, refusal::DELAY, delay, middle - 2_047, middle + 2_048)
+    within(Refusal::Length, tuning.length, 1, LONGEST)?;
+    let middle = 4_096 * tuning.order;
+    within(Refusal::Delay, tuning.delay, middle - 2_047, middle + 2_048)
 }
 
-// What a tuning is refused by: 1, 2, 3, else 0.
-pub fn untuned(order: u32, length: u32, delay: u32) -> u32
-    ensures { result ≡ refusal (Order order ∷ long length ∷ Delay order delay ∷ []) }
+// What a tuning is refused by: 1, 2, 3.
+pub fn untuned(tuning: Tuning) -> Result<(), Refusal>
+    ensures { code_of result
+        ≡ First (Order tuning.order ∷ long tuning.length ∷ Delay tuning.order tuning.delay ∷ []) }
 {
-    if refusal::outside(order, 1, refusal::ORDERS) {
-        return refusal::ORDER;
-    }
-    in_order(order, length, delay)
+    within(Refusal::Order, tuning.order, 1, ORDERS)?;
+    in_order(tuning)
 }

@@ -4,7 +4,7 @@ use mathlib.Core.Path.{sym, ap₂, subst, ◌∙◌}
 use mathlib.Core.List.{List}
 use Prim.Native.Nat.{ℕ, ◌+◌}
 use Rattle.rule.specs.Calls.{Call}
-use Rattle.voice.specs.declared.Answer.{Answer}
+use Rattle.voice.specs.Called.{Answer}
 use Rattle.voice.specs.Struct.{state_of}
 use Rattle.voice.specs.Called.{On}
 use Rattle.follow.specs.Follow.{change, act_calls}

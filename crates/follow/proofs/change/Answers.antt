@@ -3,7 +3,7 @@
 use mathlib.Core.Path.{sym, ◌∙◌}
 use Prim.Native.Nat.{◌+◌}
 use native.Mathlib.Omega.{arith}
-use Rattle.voice.specs.declared.Answer.{Answer}
+use Rattle.voice.specs.Called.{Answer}
 use Rattle.voice.specs.Struct.{state_of}
 use Rattle.voice.specs.Called.{On}
 use Rattle.follow.specs.Follow as Run

@@ -10,6 +10,8 @@ use mir.Val.{SFits, to_z, of_z}
 use mir.Facts.{to_z-of_z}
 use Rattle.integer.proofs.View.{abs_fits}
 use Rattle.refusal.specs.Orders.{Takes}
+use Rattle.refusal.specs.Numbers.{code_of}
+use Rattle.refusal.proofs.Numbers.{refused-above}
 use Rattle.thiran.specs.declared.formula.Coefficients.{Coefficients}
 use Rattle.thiran.specs.Coefficients.{coefficients}
 use Rattle.thiran.specs.Answers.{padded}
@@ -30,7 +32,7 @@ cast z A h e =
     let g = abs_fits w32 A (omega arith) in
     rw (e, to_z-of_z f) (g, to_z-of_z g)
 
-module _ (c : goal.Else-code-ne0) where
+module _ (c : goal.In_default) where
   abbrev N : ℕ
   N = c.args.order
 
@@ -38,7 +40,7 @@ module _ (c : goal.Else-code-ne0) where
   d = c.args.d
 
   taken : Takes N d
-  taken = takes N d (sym c.refused-code.ensures ∙ c.if-code-ne0.false)
+  taken = takes N d (sym c.refused.ensures ∙ ap code_of c.in_default.is)
 
 module _ (c : (lts.After-set tie.the-claims reads.Pre reads.Post)) where
   abbrev A : ℕ → ℤ
@@ -59,12 +61,13 @@ module _ (c : (lts.After-set tie.the-claims reads.Pre reads.Post)) where
   unfolding padded
   third = cast c.set-c.result.a3 (A 2) (small 2) (ap (λ (r : Coefficients). r.a3) c.set-c.ensures)
 
-pub returns-then-code-ne0 : goal.returns-then-code-ne0
-returns-then-code-ne0 c =
+pub returns-in-Err : goal.returns-in-Err
+returns-in-Err c =
     let s = c.args in
-    let e = c.refused-code.ensures in
-    ap (λ (n : ℕ). record { refusal = n; a1 = pos 0; a2 = pos 0; a3 = pos 0 }) e
-    ∙ sym (design-refused s.order s.d (λ z. c.if-code-ne0.true (e ∙ z)))
+    let r = c.in-Err.refusal in
+    let e = sym (ap code_of c.in-Err.is) ∙ c.refused.ensures in
+    ap (λ (n : ℕ). record { refusal = n; a1 = pos 0; a2 = pos 0; a3 = pos 0 }) (c.number.ensures ∙ e)
+    ∙ sym (design-refused s.order s.d (λ z. refused-above r (e ∙ z)))
 
 pub set-c-requires : goal.set-c-requires
 set-c-requires c = taken c

@@ -10,8 +10,8 @@ use Rattle.voice.proofs.resting.Goals as goal
 pub returns : goal.returns
 returns c =
     let s = c.before.before in
-    let N = s.args.order in
-    let e = c.at_rest-s.ensures in
+    let N = s.args.tuning.order in
+    let e = c.at_rest.ensures in
     let rests = ap (λ (v : State). held N v) e ∙ held-rest N s.requires.0.most in
     record {
       tuning = refl;
@@ -20,7 +20,7 @@ returns c =
         takes = s.requires.0;
         short = s.requires.1;
         long = s.requires.2;
-        coefficients_are = c.set-c.ensures;
+        coefficients_are = c.set.ensures;
         past = rw rests (e ∙ sym (stored-rest N));
         within = rw rests (rest-within N);
       };

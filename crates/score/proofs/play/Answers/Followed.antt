@@ -8,7 +8,7 @@ use lib.IntN.{ℤ}
 use lib.ListN.{length}
 use Rattle.rule.specs.Calls.{Call, announce}
 use Rattle.rule.specs.State.{puts}
-use Rattle.voice.specs.declared.Answer.{Answer}
+use Rattle.voice.specs.Called.{Answer}
 use Rattle.voice.specs.declared.Head.{Head}
 use Rattle.voice.specs.Struct.{state_of}
 use Rattle.voice.specs.Called.{On}

@@ -1,0 +1,50 @@
+-- A refusal's number is above 0: so what is refused is told from what is not.
+-- Assumes nothing.
+use mathlib.Core.Path.{◌≡◌, refl}
+use Prim.Native.Nat.{◌<◌}
+use native.Mathlib.Omega.{arith}
+use Rattle.std.specs.Prelude.{Result, Ok, Err}
+use Rattle.refusal.specs.declared.Refusal.{Refusal}
+use Rattle.refusal.specs.declared.Refusal.TheVariants.{
+  Order, Length, Delay, Loss, Advance, ChangeWaits, Amplitude, Count, BlockLengths, Sample, Rate, Note, NoteLength,
+  CutShort, BitMap, OutputFull, RecordingRate, Room, FileForm, TooEarly, NothingAsked, StoredLength, StoredPart,
+  NoString, Area, NotFinite, FloatRange, Headers, Alone, Merge, ListForm, NoAdvance
+}
+use Rattle.refusal.specs.Numbers.{number_of, code_of}
+
+pub above-0 : (r : Refusal) → 0 < number_of r
+above-0 Order = omega arith
+above-0 Length = omega arith
+above-0 Delay = omega arith
+above-0 Loss = omega arith
+above-0 Advance = omega arith
+above-0 ChangeWaits = omega arith
+above-0 Amplitude = omega arith
+above-0 Count = omega arith
+above-0 BlockLengths = omega arith
+above-0 Sample = omega arith
+above-0 Rate = omega arith
+above-0 Note = omega arith
+above-0 NoteLength = omega arith
+above-0 CutShort = omega arith
+above-0 BitMap = omega arith
+above-0 OutputFull = omega arith
+above-0 RecordingRate = omega arith
+above-0 Room = omega arith
+above-0 FileForm = omega arith
+above-0 TooEarly = omega arith
+above-0 NothingAsked = omega arith
+above-0 StoredLength = omega arith
+above-0 StoredPart = omega arith
+above-0 NoString = omega arith
+above-0 Area = omega arith
+above-0 NotFinite = omega arith
+above-0 FloatRange = omega arith
+above-0 Headers = omega arith
+above-0 Alone = omega arith
+above-0 Merge = omega arith
+above-0 ListForm = omega arith
+above-0 NoAdvance = omega arith
+
+pub refused-above : (r : Refusal) → number_of r ≡ 0 → ⊥
+refused-above r e = omega (arith, above-0 r)
