@@ -8,8 +8,7 @@ use Rattle.rule.specs.Click.{Figure}
 use Rattle.voice.specs.declared.Filter.{Filter}
 use Rattle.voice.specs.declared.Head.{Head}
 use Rattle.voice.specs.declared.Waiting.TheVariants.{Idle}
-use Rattle.open.specs.declared.Opened.{Opened}
-use Rattle.open.specs.Opened.{Opens}
+use Rattle.open.specs.Opened.{Opened, Opens}
 use Rattle.list.specs.Chain.{Chain, Chained}
 
 abbrev pub o : Opening

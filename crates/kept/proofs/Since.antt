@@ -7,8 +7,7 @@ use lib.IntN.{ℤ}
 use lib.ListN.{length}
 use Rattle.rule.specs.Calls.{Call, Opening, block}
 use Rattle.voice.specs.declared.Head.{Head}
-use Rattle.open.specs.declared.Opened.{Opened}
-use Rattle.open.specs.Opened.{Opens}
+use Rattle.open.specs.Opened.{Opened, Opens}
 use Rattle.packed.specs.Words.{head_of}
 use Rattle.list.specs.Chain.{Chain, heard, Chained}
 use Rattle.list.proofs.Chain.{chained}

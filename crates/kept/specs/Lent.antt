@@ -2,7 +2,7 @@
 -- of crates open, change and block then speak of `head_of` of the words before and after.
 use Rattle.std.specs.Prelude.{List, ℕ, ℤ}
 use Rattle.voice.specs.Called.{Answer}
-use Rattle.open.specs.declared.Opened.{Opened}
+use Rattle.open.specs.Opened.{Opened}
 use Rattle.packed.specs.Words.{head_of}
 
 -- the number, and the head that the words are

@@ -23,8 +23,7 @@ use Rattle.voice.specs.Struct.{voice_of, state_of}
 use Rattle.voice.specs.Valid.{Valid}
 use Rattle.voice.specs.Called.{On, lent}
 use Rattle.voice.proofs.Called.{on}
-use Rattle.open.specs.declared.Opened.{Opened}
-use Rattle.open.specs.Opened.{Opens}
+use Rattle.open.specs.Opened.{Opened, Opens}
 use Rattle.list.specs.Chain.{heard, Chain, none, called, changed, rendered, resumed, Chained}
 
 -- what the calls cs do from the head h and the line l, as the list of them does from that voice

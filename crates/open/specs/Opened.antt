@@ -1,6 +1,6 @@
 -- What Open returns, in the sample rule's terms; refused too.
 -- Definitions alone. Assumes nothing.
-use Rattle.std.specs.Prelude.{◌≡◌}
+use Rattle.std.specs.Prelude.{◌≡◌, ℕ}
 use Rattle.refusal.specs.Limits.{refusal}
 use Rattle.refusal.specs.Numbers.{code_of}
 use Rattle.rule.specs.Calls as Rule
@@ -9,7 +9,8 @@ use Rattle.rule.specs.State.{fresh}
 use Rattle.voice.specs.Struct.{state_of}
 use Rattle.voice.specs.Valid.{Valid}
 use Rattle.open.specs.declared.Opening.{Opening}
-use Rattle.open.specs.declared.Opened.{Opened}
+use Rattle.open.specs.declared.Opened.{Opened as Returned}
+use Rattle.open.specs.declared.Voice.{Voice}
 
 abbrev pub opening_of : Opening → Rule.Opening
 opening_of o = record {
@@ -20,8 +21,16 @@ opening_of o = record {
   Na = o.advance;
 }
 
+-- what Open returns by number, and the voice
+pub record Opened : Type 0 where
+  pub refusal : ℕ
+  pub voice : Voice
+
+abbrev pub opened : Returned → Opened
+opened r = record { refusal = code_of r.answer; voice = r.voice }
+
 -- Open: its number, and the voice, "a resting voice .." where it refuses
 pub record Opens (o : Rule.Opening) (r : Opened) : Type 0 where
-  pub number : code_of r.answer ≡ refusal (open_limits o)
+  pub number : r.refusal ≡ refusal (open_limits o)
   pub state : state_of r.voice.head r.voice.line ≡ fresh o
   pub valid : Valid r.voice.head r.voice.line

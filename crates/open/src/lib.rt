@@ -10,7 +10,7 @@ ghost use Rattle.rule.specs.Calls.{open_limits, resting as resting_voice};
 ghost use Rattle.rule.specs.State.{silence};
 ghost use Rattle.voice.specs.Struct.{state_of};
 ghost use Rattle.voice.specs.Valid.{Valid};
-ghost use Rattle.open.specs.Opened.{opening_of, Opens};
+ghost use Rattle.open.specs.Opened.{opening_of, opened, Opens};
 
 use integer::Value;
 use refusal::{MOST_ADVANCE, MOST_LOSS, Refusal, within};
@@ -88,7 +88,7 @@ fn fresh(o: Opening) -> Voice
 
 // Open.
 pub fn open(o: Opening) -> Opened
-    ensures { Opens (opening_of o) result }
+    ensures { Opens (opening_of o) (opened result) }
 {
     let answer = refused(o);
     let kept = if answer.is_ok() { o } else { REFUSED };

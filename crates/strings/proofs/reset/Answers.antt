@@ -8,8 +8,7 @@ use lib.ListN.{replicate, length-replicate, get_or-replicate}
 use Rattle.rule.specs.Calls.{Opening}
 use Rattle.voice.specs.declared.Head.{Head}
 use Rattle.voice.specs.Struct.{state_of}
-use Rattle.open.specs.declared.Opened.{Opened}
-use Rattle.open.specs.Opened.{Opens}
+use Rattle.open.specs.Opened.{Opened, Opens}
 use Rattle.packed.specs.Words.{head_of}
 use Rattle.form.proofs.Theorems.{refused_opens}
 use Rattle.strings.specs.Rows.{Resets}
