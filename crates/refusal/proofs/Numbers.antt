@@ -1,14 +1,44 @@
 -- A refusal's number is above 0: so what is refused is told from what is not.
 -- Assumes nothing.
-use mathlib.Core.Path.{◌≡◌, refl}
-use Prim.Native.Nat.{◌<◌}
+use mathlib.Core.Path.{◌≡◌, sym, ◌∙◌}
+use mathlib.Core.Bool.{true, false, true≢false}
+use Prim.Native.Nat.{ℕ, ◌<◌}
 use native.Mathlib.Omega.{arith}
-use Rattle.std.specs.Prelude.{Result, Ok, Err}
+use Rattle.std.specs.Prelude.{Result, Ok, Err, is_ok}
 use Rattle.refusal.specs.declared.Refusal.{Refusal}
 use Rattle.refusal.specs.declared.Refusal.TheVariants.{
-  Order, Length, Delay, Loss, Advance, ChangeWaits, Amplitude, Count, BlockLengths, Sample, Rate, Note, NoteLength,
-  CutShort, BitMap, OutputFull, RecordingRate, Room, FileForm, TooEarly, NothingAsked, StoredLength, StoredPart,
-  NoString, Area, NotFinite, FloatRange, Headers, Alone, Merge, ListForm, NoAdvance
+  Order,
+  Length,
+  Delay,
+  Loss,
+  Advance,
+  ChangeWaits,
+  Amplitude,
+  Count,
+  BlockLengths,
+  Sample,
+  Rate,
+  Note,
+  NoteLength,
+  CutShort,
+  BitMap,
+  OutputFull,
+  RecordingRate,
+  Room,
+  FileForm,
+  TooEarly,
+  NothingAsked,
+  StoredLength,
+  StoredPart,
+  NoString,
+  Area,
+  NotFinite,
+  FloatRange,
+  Headers,
+  Alone,
+  Merge,
+  ListForm,
+  NoAdvance,
 }
 use Rattle.refusal.specs.Numbers.{number_of, code_of}
 
@@ -48,3 +78,12 @@ above-0 NoAdvance = omega arith
 
 pub refused-above : (r : Refusal) → number_of r ≡ 0 → ⊥
 refused-above r e = omega (arith, above-0 r)
+
+-- ---- a Result, by whether it is Ok
+pub ok-code : {A : Type 0} (x : Result A Refusal) {n : ℕ} → code_of x ≡ n → is_ok x ≡ true → 0 ≡ n
+ok-code (Ok y) e i = e
+ok-code (Err r) e i = absurd (true≢false (sym i))
+
+pub err-code : {A : Type 0} (x : Result A Refusal) {n : ℕ} → code_of x ≡ n → is_ok x ≡ false → n ≡ 0 → ⊥
+err-code (Ok y) e i z = true≢false i
+err-code (Err r) e i z = refused-above r (e ∙ z)

@@ -3,9 +3,38 @@
 use Rattle.std.specs.Prelude.{ℕ, Result, Ok, Err}
 use Rattle.refusal.specs.declared.Refusal.{Refusal}
 use Rattle.refusal.specs.declared.Refusal.TheVariants.{
-  Order, Length, Delay, Loss, Advance, ChangeWaits, Amplitude, Count, BlockLengths, Sample, Rate, Note, NoteLength,
-  CutShort, BitMap, OutputFull, RecordingRate, Room, FileForm, TooEarly, NothingAsked, StoredLength, StoredPart,
-  NoString, Area, NotFinite, FloatRange, Headers, Alone, Merge, ListForm, NoAdvance
+  Order,
+  Length,
+  Delay,
+  Loss,
+  Advance,
+  ChangeWaits,
+  Amplitude,
+  Count,
+  BlockLengths,
+  Sample,
+  Rate,
+  Note,
+  NoteLength,
+  CutShort,
+  BitMap,
+  OutputFull,
+  RecordingRate,
+  Room,
+  FileForm,
+  TooEarly,
+  NothingAsked,
+  StoredLength,
+  StoredPart,
+  NoString,
+  Area,
+  NotFinite,
+  FloatRange,
+  Headers,
+  Alone,
+  Merge,
+  ListForm,
+  NoAdvance,
 }
 
 abbrev pub number_of : Refusal → ℕ

@@ -25,7 +25,12 @@ pub fn refused(order: u32, d: u32) -> Result<(), Refusal>
     ensures { code_of result ≡ First (limits order d) }
 {
     within(Refusal::Order, order, 1, ORDERS)?;
-    within(Refusal::Delay, d, 4_096 * order - 2_047, 4_096 * order + 2_048)
+    within(
+        Refusal::Delay,
+        d,
+        4_096 * order - 2_047,
+        4_096 * order + 2_048,
+    )
 }
 
 // A1, A2 and A3 of an order and a delay: 0 past the order, and all 0 where they are refused.
