@@ -2,76 +2,51 @@
 // Contracts say how much the room then holds, and cannot say which bytes were read.
 #![tactic(auto)]
 
-ghost use Rattle.std.specs.Prelude.{◌≡◌, ◌+◌, ◌≤◌, length, drop};
+ghost use Rattle.std.specs.Prelude.{◌≡◌, ◌+◌, ◌≤◌, length, drop, IfOk, MatchResult};
 ghost use Rattle.std.proofs.Math.Seq.{paste};
 
 use std::io::{Read, Stdin};
 
-// How many bytes the room holds, as many as before at the end of the input, whether the read failed, and the
-// system's number of the error where it did.
+// A read that failed: how many bytes the room holds, as many as before, and the system's number of the error.
 #[derive(Clone, Copy)]
-pub struct Came {
+pub struct Failed {
     pub held: usize,
-    pub failed: bool,
     pub code: i32,
 }
 
-// One read into the part that is left of a room.
-fn part(from: Stdin, part: &mut [u8]) -> Came
-    ensures { result.held ≤ length part.new }
+// One read into the part that is left of a room: how many bytes came, or the number of the error.
+fn part(mut from: Stdin, part: &mut [u8]) -> Result<usize, i32>
+    ensures { IfOk result (λ n. n ≤ length part.new) }
 {
-    let mut input = from;
-    match input.read(part) {
-        Ok(n) => Came {
-            held: n,
-            failed: false,
-            code: 0,
-        },
-        Err(e) => Came {
-            held: 0,
-            failed: true,
-            code: e.raw_os_error().unwrap_or(0),
-        },
-    }
+    from.read(part).map_err(|e| e.raw_os_error().unwrap_or(0))
 }
 
-// One read into a room that holds some bytes.
-pub fn more(from: Stdin, room: &mut [u8], held: usize) -> Came
-    ensures { result.held ≤ length room.old }
+// One read into a room that holds some bytes: how many it holds then, as many as before at the end of the input.
+pub fn more(from: Stdin, room: &mut [u8], held: usize) -> Result<usize, Failed>
+    ensures { MatchResult result (λ n. n ≤ length room.old) (λ e. e.held ≤ length room.old) }
 {
-    let size = room.len();
-    if size < held {
-        return Came {
-            held: size,
-            failed: false,
-            code: 0,
-        };
+    if held > room.len() {
+        return Ok(room.len());
     }
-    let r = part(from, &mut room[held..]);
-    Came {
-        held: held + r.held,
-        failed: r.failed,
-        code: r.code,
+    match part(from, &mut room[held..]) {
+        Ok(n) => Ok(held + n),
+        Err(code) => Err(Failed { held, code }),
     }
 }
 
 // Reads until the room is full, the input ends or a read fails.
-pub fn full(from: Stdin, room: &mut [u8]) -> Came
-    ensures { result.held ≤ length room.old }
+pub fn full(from: Stdin, room: &mut [u8]) -> Result<usize, Failed>
+    ensures { MatchResult result (λ n. n ≤ length room.old) (λ e. e.held ≤ length room.old) }
 {
     let mut held = 0;
     while held < room.len() {
-        let r = more(from, room, held);
-        if r.held <= held {
-            return r;
+        let n = more(from, room, held)?;
+        if n <= held {
+            return Ok(n);
         }
-        held = r.held;
+        held = n;
     }
-    Came {
-        held: held,
-        failed: false,
-        code: 0,
-    }
+    Ok(held)
 }
 
 // Moves n bytes of a room, from a place on, to its front.
@@ -79,9 +54,5 @@ pub fn front(room: &mut [u8], from: usize, n: usize)
     requires { from + n ≤ length room.old }
     ensures { room.new ≡ paste room.old 0 (drop from room.old) n }
 {
-    let mut i = 0;
-    while i < n {
-        room[i] = room[from + i];
-        i = i + 1;
-    }
+    room.copy_within(from..from + n, 0);
 }

@@ -1,76 +1,28 @@
--- Laws of the digits of a word, one digit after the other.
--- Assumes nothing.
-use mathlib.Core.Path.{◌≡◌, refl, sym, ap, ◌∙◌}
-use mathlib.Core.Bool.{Bool, true, false, cond}
-use mathlib.Core.List.{List, [], ◌∷◌}
-use Prim.Native.Nat.{ℕ, ◌+◌, ◌*◌, ◌-◌, ◌^◌, ◌≤◌, ◌<◌}
-use native.Mathlib.Numerals.{add-one}
-use native.Mathlib.Nat.{le_trans}
-use native.Mathlib.Omega.{arith}
-use borrow.Author.Tests.{ltb-false, leb-true, le-leb, lt-leb}
-use lib.Dec.{ltb, leb}
-use lib.ListN.{length, drop, get_or, drop_of_length-le}
-use lib.Seq.{drop-cons}
-use Rattle.text.specs.declared.Number.{Number}
-use Rattle.text.specs.Numbers.{digit, digits, decimal, is_number, number_of}
-use Rattle.text.proofs.Flags.{first, second, rest}
-
--- a digit is from 48 to 57
-pub low : (b : ℕ) → digit b ≡ true → (48 ≤ b) × (b ≤ 57)
-low b e = let r = rest (ltb b 48) (leb b 57) e in (ltb-false b 48 r.0, leb-true b 57 r.1)
+-- The number that the digits of a word spell, and a word whose digits spell too much.
+use Rattle.std.proofs.Common.{◌≡◌, ℕ, suc, ◌+◌, ◌*◌, ◌-◌, ◌^◌, ◌≤◌, ◌<◌, true, List, [], ◌∷◌, length, drop, get_or, drop-cons, add-one, Some, None, sym, ◌∙◌, arith}
+use Rattle.std.proofs.Math.ListN.{drop_of_length-le}
+use Rattle.std.proofs.lemmas.Bool.Decides.{nat_tests}
+use Rattle.text.specs.Numbers.{digits, decimal, number_of}
 
 -- what is still to be read never makes the number smaller
-pub grows : (s : List ℕ) (n : ℕ) → n ≤ decimal n s
+grows : (s : List ℕ) (n : ℕ) → n ≤ decimal n s
 grows [] n = omega arith
-grows (b ∷ s) n =
-    let h = grows s (10 * n + (b - 48)) in
-    let k : n ≤ 10 * n + (b - 48) = omega arith in
-    le_trans k h
+grows (b ∷ s) n = omega (arith, grows s (10 * n + (b - 48)))
 
--- one byte read
-module _ (s : List ℕ) (i : ℕ) (h : i < length s) where
-  pub digits_more : digits (drop i s) ≡ cond (digit (get_or s i 0)) (digits (drop (i + 1) s)) false
-  digits_more = rw (add-one, drop-cons s i 0) refl
+-- one more byte, and the number is no smaller than this
+pub decimal_least : (s : List ℕ) (i n : ℕ) → i < length s → 10 * n + (get_or s i 0 - 48) ≤ decimal n (drop i s)
+decimal_least s i n inside = rw (drop-cons s i 0) (grows (drop (suc i) s) (10 * n + (get_or s i 0 - 48)))
 
-  pub decimal-more : (n : ℕ) → decimal n (drop i s) ≡ decimal (10 * n + (get_or s i 0 - 48)) (drop (i + 1) s)
-  decimal-more n = rw (add-one, drop-cons s i 0) refl
+read : (s : List ℕ) (n : ℕ) → 0 < length s → true ≡ digits s → n ≡ decimal 0 s → n < 2 ^ 32 → Some n ≡ number_of s
+read [] n some d e low = absurd (omega arith)
+read (b ∷ s) n some d e low = grind (arith, nat_tests)
 
-abbrev pub made : Bool → ℕ → Number
-made t n = record { ok = t; value = cond t n 0 }
+-- nothing is left to read from i on
+pub number_of-read : (s : List ℕ) (i n : ℕ) → 0 < length s → length s ≤ i → digits (drop i s) ≡ digits s
+    → decimal n (drop i s) ≡ decimal 0 s → n < 2 ^ 32 → Some n ≡ number_of s
+number_of-read s i n some end d e low =
+    read s n some (rw (drop_of_length-le s end) at d) (rw (drop_of_length-le s end) at e) low
 
-pub unread : (s : List ℕ) → is_number s ≡ false → made false 0 ≡ number_of s
-unread s e = sym (ap (λ (t : Bool). made t (decimal 0 s)) e)
-
-pub empty : (s : List ℕ) → length s ≡ 0 → is_number s ≡ false
-empty [] e = refl
-empty (b ∷ s) e = absurd (omega arith)
-
--- a word that is not empty
-pub told : (s : List ℕ) → 0 < length s
-    → is_number s ≡ cond (digits s) (leb (decimal 0 s) (2 ^ 32 - 1)) false
-told [] h = absurd (omega arith)
-told (b ∷ s) h = refl
-
-pub not-digits : (s : List ℕ) → 0 < length s → digits s ≡ false → is_number s ≡ false
-not-digits s h e = told s h ∙ second (digits s) _ _ e
-
-pub too_large : (s : List ℕ) → 0 < length s → 2 ^ 32 ≤ decimal 0 s → is_number s ≡ false
-too_large s h k = told s h ∙ go (digits s)
-  where
-    go : (t : Bool) → cond t (leb (decimal 0 s) (2 ^ 32 - 1)) false ≡ false
-    go true = lt-leb (decimal 0 s) (2 ^ 32 - 1) (omega arith)
-    go false = refl
-
-pub read : (s : List ℕ) (n : ℕ) → 0 < length s → digits s ≡ true → n ≡ decimal 0 s → n < 2 ^ 32
-    → made true n ≡ number_of s
-read s n h d e k =
-    let t : is_number s ≡ true
-    = told s h ∙ first (digits s) _ _ d ∙ le-leb (decimal 0 s) (2 ^ 32 - 1) (omega arith) in
-    ap (λ (m : ℕ). made true m) e ∙ sym (ap (λ (u : Bool). made u (decimal 0 s)) t)
-
--- nothing is left
-pub digits-end : (s : List ℕ) (i : ℕ) → length s ≤ i → digits (drop i s) ≡ true
-digits-end s i h = rw (drop_of_length-le s h) refl
-
-pub decimal-end : (s : List ℕ) (i n : ℕ) → length s ≤ i → decimal n (drop i s) ≡ n
-decimal-end s i n h = rw (drop_of_length-le s h) refl
+pub number_of-large : (s : List ℕ) → 2 ^ 32 ≤ decimal 0 s → None ≡ number_of s
+number_of-large [] high = absurd (omega arith)
+number_of-large (b ∷ s) high = grind (arith, nat_tests)

@@ -1,9 +1,6 @@
--- What a word spells: a number of 32 bits, a sample, a byte. Leading zeros are allowed, a `+` is not.
--- Definitions alone. Assumes nothing.
-use Rattle.std.specs.Prelude.{Bool, true, false, cond, List, [], ◌∷◌, ℕ, ◌+◌, ◌*◌, ◌-◌, ◌^◌, eqb, ltb, leb, ℤ, pos, neg_ℤ}
-use Rattle.text.specs.declared.Number.{Number}
-use Rattle.text.specs.declared.Sample.{Sample}
-use Rattle.text.specs.declared.byte.Byte.{Byte}
+-- What a word spells: a number of 32 bits, a sample, a byte; None where it spells none.
+-- Leading zeros are allowed, a `+` is not.
+use Rattle.std.specs.Prelude.{Bool, true, false, cond, List, [], ◌∷◌, ℕ, ◌+◌, ◌*◌, ◌-◌, ◌^◌, eqb, ltb, leb, ℤ, pos, neg_ℤ, Option, Some, None}
 
 -- `0` to `9`
 abbrev pub digit : ℕ → Bool
@@ -24,37 +21,38 @@ abbrev pub is_number : List ℕ → Bool
 is_number [] = false
 is_number (b ∷ s) = cond (digits (b ∷ s)) (leb (decimal 0 (b ∷ s)) (2 ^ 32 - 1)) false
 
-abbrev pub number_of : List ℕ → Number
-number_of s = record { ok = is_number s; value = cond (is_number s) (decimal 0 s) 0 }
-
-abbrev pub sample : Bool → ℤ → Sample
-sample t z = record { ok = t; value = cond t z (pos 0) }
+abbrev pub number_of : List ℕ → Option ℕ
+number_of s = cond (is_number s) (Some (decimal 0 s)) None
 
 -- a number with `-` before it: down to −2^31
-abbrev pub negated : Number → Sample
-negated n = sample (cond n.ok (leb n.value (2 ^ 31)) false) (neg_ℤ (pos n.value))
+abbrev pub negated : Option ℕ → Option ℤ
+negated None = None
+negated (Some n) = cond (leb n (2 ^ 31)) (Some (neg_ℤ (pos n))) None
 
 -- a number with no sign: below 2^31
-abbrev pub kept : Number → Sample
-kept n = sample (cond n.ok (ltb n.value (2 ^ 31)) false) (pos n.value)
+abbrev pub kept : Option ℕ → Option ℤ
+kept None = None
+kept (Some n) = cond (ltb n (2 ^ 31)) (Some (pos n)) None
 
-abbrev pub sample_of : List ℕ → Sample
-sample_of [] = sample false (pos 0)
+abbrev pub sample_of : List ℕ → Option ℤ
+sample_of [] = None
 sample_of (b ∷ s) = cond (eqb b 45) (negated (number_of s)) (kept (number_of (b ∷ s)))
 
--- the value of a hexadecimal digit, `0` to `9`, `a` to `f` or `A` to `F`; 16 for any other byte
-abbrev pub hex_of : ℕ → ℕ
+-- the value of a hexadecimal digit, `0` to `9`, `a` to `f` or `A` to `F`
+abbrev pub hex_of : ℕ → Option ℕ
 hex_of b =
-    cond (digit b) (b - 48)
-    (cond (leb 97 b) (cond (leb b 102) (b - 87) 16)
-    (cond (leb 65 b) (cond (leb b 70) (b - 55) 16) 16))
+    cond (digit b) (Some (b - 48))
+    (cond (leb 97 b) (cond (leb b 102) (Some (b - 87)) None)
+    (cond (leb 65 b) (cond (leb b 70) (Some (b - 55)) None) None))
 
-abbrev pub byte : Bool → ℕ → Byte
-byte t n = record { ok = t; value = cond t n 0 }
+abbrev pub byte : Option ℕ → Option ℕ → Option ℕ
+byte (Some a) (Some b) = Some (16 * a + b)
+byte (Some a) None = None
+byte None b = None
 
 -- two digits
-abbrev pub byte_of : List ℕ → Byte
-byte_of [] = byte false 0
-byte_of (a ∷ []) = byte false 0
-byte_of (a ∷ b ∷ []) = byte (cond (ltb (hex_of a) 16) (ltb (hex_of b) 16) false) (16 * hex_of a + hex_of b)
-byte_of (a ∷ b ∷ c ∷ s) = byte false 0
+abbrev pub byte_of : List ℕ → Option ℕ
+byte_of [] = None
+byte_of (a ∷ []) = None
+byte_of (a ∷ b ∷ []) = byte (hex_of a) (hex_of b)
+byte_of (a ∷ b ∷ c ∷ s) = None

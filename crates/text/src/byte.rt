@@ -1,55 +1,26 @@
-// A byte in hexadecimal digits.
-// ok is whether a word spells one, and value is 0 where it does not.
-ghost use Rattle.std.specs.Prelude.{◌≡◌, ◌≤◌};
+// A byte in hexadecimal digits; None where a word spells none.
+ghost use Rattle.std.specs.Prelude.{◌≡◌, IfSome, ◌<◌};
 ghost use Rattle.text.specs.Numbers.{hex_of, byte_of};
 
-use crate::is_digit;
-
-#[derive(Clone, Copy)]
-pub struct Byte {
-    pub ok: bool,
-    pub value: u8,
-}
-
-// The value of a hexadecimal digit, and 16 for any other byte.
-fn hex(b: u8) -> u8
-    ensures { (result ≡ hex_of b) × (result ≤ 16) }
+// The value of a hexadecimal digit.
+fn hex(b: u8) -> Option<u8>
+    ensures value { result ≡ hex_of b }
+    ensures bound { IfSome result (λ n. n < 16) }
 {
-    if is_digit(b) {
-        return b - b'0';
+    match b {
+        b'0'..=b'9' => Some(b - b'0'),
+        b'a'..=b'f' => Some(b - b'a' + 10),
+        b'A'..=b'F' => Some(b - b'A' + 10),
+        _ => None,
     }
-    if b'a' <= b {
-        if b <= b'f' {
-            return b - 87;
-        }
-        return 16;
-    }
-    if b'A' <= b {
-        if b <= b'F' {
-            return b - 55;
-        }
-    }
-    16
 }
 
 // A byte in two hexadecimal digits.
-pub fn read_byte(word: &[u8]) -> Byte
+pub fn read_byte(word: &[u8]) -> Option<u8>
     ensures { result ≡ byte_of word.now }
 {
-    if word.len() == 2 {
-        let high = hex(word[0]);
-        let low = hex(word[1]);
-        if high < 16 {
-            if low < 16 {
-                return Byte {
-                    ok: true,
-                    value: 16 * high + low,
-                };
-            }
-        }
-    }
-    Byte {
-        ok: false,
-        value: 0,
+    match word {
+        [high, low] => Some(16 * hex(*high)? + hex(*low)?),
+        _ => None,
     }
 }

@@ -1,4 +1,4 @@
-// What a word spells: a number, a sample or a byte. ok is whether it spells one; if not, value is 0.
+// What a word spells: a number, a sample or a byte; None where it spells none.
 // The whole word is read: a word with any other byte in it spells nothing. Contracts cite specs/Numbers.antt.
 #![tactic(auto)]
 
@@ -7,112 +7,50 @@ ghost use Rattle.text.specs.Numbers.{digit, number_of, negated, kept, sample_of}
 
 pub mod byte;
 
-#[derive(Clone, Copy)]
-pub struct Number {
-    pub ok: bool,
-    pub value: u32,
-}
-
-#[derive(Clone, Copy)]
-pub struct Sample {
-    pub ok: bool,
-    pub value: i32,
-}
-
 // A byte is a decimal digit.
 fn is_digit(b: u8) -> bool
     ensures { result ≡ digit b }
 {
-    if b < b'0' {
-        return false;
-    }
-    b <= b'9'
+    b >= b'0' && b <= b'9'
 }
 
 // A number in decimal digits, below 2^32.
-pub fn read_number(word: &[u8]) -> Number
+pub fn read_number(word: &[u8]) -> Option<u32>
     ensures { result ≡ number_of word.now }
 {
-    if word.len() == 0 {
-        return Number {
-            ok: false,
-            value: 0,
-        };
+    if word.is_empty() {
+        return None;
     }
-    let mut n: u64 = 0;
-    let mut i = 0;
-    while i < word.len() {
-        let b = word[i];
+    let mut n: u32 = 0;
+    for &b in word {
         if !is_digit(b) {
-            return Number {
-                ok: false,
-                value: 0,
-            };
+            return None;
         }
-        n = 10 * n + (b - b'0') as u64;
-        if 4_294_967_295 < n {
-            return Number {
-                ok: false,
-                value: 0,
-            };
-        }
-        i = i + 1;
+        n = n.checked_mul(10)?.checked_add((b - b'0') as u32)?;
     }
-    Number {
-        ok: true,
-        value: n as u32,
-    }
+    Some(n)
 }
 
 // The number below zero, where it is at most 2^31.
-fn negative(n: Number) -> Sample
+fn negative(n: Option<u32>) -> Option<i32>
     ensures { result ≡ negated n }
 {
-    if n.ok {
-        if n.value <= 2_147_483_648 {
-            let x = n.value as i64;
-            return Sample {
-                ok: true,
-                value: (0 - x) as i32,
-            };
-        }
-    }
-    Sample {
-        ok: false,
-        value: 0,
-    }
+    i32::try_from(-(n? as i64)).ok()
 }
 
 // The number itself, where it is below 2^31.
-fn positive(n: Number) -> Sample
+fn positive(n: Option<u32>) -> Option<i32>
     ensures { result ≡ kept n }
 {
-    if n.ok {
-        if n.value < 2_147_483_648 {
-            return Sample {
-                ok: true,
-                value: n.value as i32,
-            };
-        }
-    }
-    Sample {
-        ok: false,
-        value: 0,
-    }
+    i32::try_from(n?).ok()
 }
 
 // A number of 32 bits with a sign: a `-` may stand before the digits.
-pub fn read_sample(word: &[u8]) -> Sample
+pub fn read_sample(word: &[u8]) -> Option<i32>
     ensures { result ≡ sample_of word.now }
 {
-    if word.len() == 0 {
-        return Sample {
-            ok: false,
-            value: 0,
-        };
+    match word {
+        [b'-', digits @ ..] => negative(read_number(digits)),
+        _ => positive(read_number(word)),
     }
-    if word[0] == b'-' {
-        return negative(read_number(&word[1..]));
-    }
-    positive(read_number(word))
 }

@@ -1,0 +1,10 @@
+-- `write::hex` meets its contract: a byte has two digits.
+use Rattle.std.proofs.Common.{List, ℕ, arith, subst, ◌∙◌}
+use Rattle.write.specs.Written.{Wrote}
+use Rattle.write.proofs.TwoDigits.{two_digits}
+use Rattle.write.proofs.hex.Goals as goal
+
+pub returns : goal.returns
+returns c =
+    let h = c.hex-k in
+    rw (← two_digits c.args.b h.result (omega (arith, c.ranges.b.fits)) h.ensures.len, ← h.ensures.digits) c.bytes.ensures
