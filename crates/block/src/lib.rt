@@ -9,10 +9,11 @@ ghost use Rattle.rule.specs.Calls.{block as Block};
 ghost use Rattle.rule.specs.State.{block_after, block_out};
 ghost use Rattle.voice.specs.Struct.{state_of};
 ghost use Rattle.voice.specs.Valid.{Valid};
-ghost use Rattle.voice.specs.Called.{On, lent};
+ghost use Rattle.voice.specs.Called.{On, answered, lent};
 
+use refusal::Refusal;
 use render::{render, silent};
-use voice::{Answer, Head};
+use voice::Head;
 
 // Renders the input, of samples alone, into the output, which is as long.
 fn rendered(line: &mut [i32; 2112], head: Head, input: &[i32], output: &mut [i32]) -> Head
@@ -29,36 +30,22 @@ fn rendered(line: &mut [i32; 2112], head: Head, input: &[i32], output: &mut [i32
 }
 
 // A block of samples: an output for each input.
-pub fn block(line: &mut [i32; 2112], head: Head, input: &[i32], output: &mut [i32]) -> Answer
+pub fn block(line: &mut [i32; 2112], head: Head, input: &[i32], output: &mut [i32]) -> Result<Head, Refusal>
     requires { Valid head line.old }
-    ensures on { On head line.old (Block input.now (length output.old)) result
+    ensures on { On head line.old (Block input.now (length output.old)) (answered head result)
         line.new }
     ensures output_after { output.new
         ≡ lent head line.old (Block input.now (length output.old))
         output.old }
 {
     if input.len() != output.len() {
-        return Answer {
-            refusal: refusal::BLOCK_LENGTHS,
-            head: head,
-        };
+        return Err(Refusal::BlockLengths);
     }
     if !samples::sounds(input) {
-        let quiet = silent(line, head, output);
-        return Answer {
-            refusal: 0,
-            head: quiet,
-        };
+        return Ok(silent(line, head, output));
     }
     if !samples::all_samples(input) {
-        return Answer {
-            refusal: refusal::SAMPLE,
-            head: head,
-        };
+        return Err(Refusal::Sample);
     }
-    let h = rendered(line, head, input, output);
-    Answer {
-        refusal: 0,
-        head: h,
-    }
+    Ok(rendered(line, head, input, output))
 }

@@ -1,3 +1,4 @@
 pub mod Refused
 pub mod Started
 pub mod Committed
+pub mod Instantly

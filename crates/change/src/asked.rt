@@ -1,16 +1,17 @@
 // What ends a change that was asked for: a commit puts it in force, a withdrawal drops it.
 // To both an announced change counts as nothing asked.
 ghost use Rattle.std.specs.Prelude.{◌≡◌, [], ◌∷◌};
-ghost use Rattle.refusal.specs.Limits.{refusal};
+ghost use Rattle.refusal.specs.Limits.{refusal as First};
+ghost use Rattle.refusal.specs.Numbers.{code_of};
 ghost use Rattle.rule.specs.Calls.{commit as Commit, withdraw as Withdraw};
 ghost use Rattle.rule.specs.Tests.{askings, asks, takings, asking, ready};
 ghost use Rattle.voice.specs.Struct.{kind_of, waiting_of};
 ghost use Rattle.voice.specs.Valid.{Fit};
-ghost use Rattle.voice.specs.Called.{Called};
+ghost use Rattle.voice.specs.Called.{Called, answered};
 ghost use Rattle.change.specs.Committed.{committed_of, committing_of};
 
-use refusal::tested;
-use voice::{Answer, Head, Kind, Waiting, with};
+use refusal::{Refusal, within};
+use voice::{Head, Kind, Waiting, with};
 
 // How many a kind counts as: an announced change is nothing asked.
 fn one(kind: Kind) -> u32
@@ -42,20 +43,20 @@ fn taken(w: Waiting) -> u32
     }
 }
 
-// What a withdrawal is refused by, and a commit at first: 21, else 0.
-fn unasked(w: Waiting) -> u32
-    ensures { result ≡ refusal (asking (waiting_of w) ∷ []) }
+// What a withdrawal is refused by, and a commit at first: 21.
+fn unasked(w: Waiting) -> Result<(), Refusal>
+    ensures { code_of result ≡ First (asking (waiting_of w) ∷ []) }
 {
-    tested(0, refusal::NOTHING_ASKED, asked(w), 1, 1)
+    within(Refusal::NothingAsked, asked(w), 1, 1)
 }
 
-// What a commit is refused by: 21, then 20, else 0.
-fn early(w: Waiting, advance: u32) -> u32
-    ensures { result ≡ refusal (asking (waiting_of w) ∷ ready advance (waiting_of w) ∷ []) }
+// What a commit is refused by: 21, then 20.
+fn early(w: Waiting, advance: u32) -> Result<(), Refusal>
+    ensures { code_of result ≡ First (asking (waiting_of w) ∷ ready advance (waiting_of w) ∷ []) }
 {
-    let code = unasked(w);
+    unasked(w)?;
     let n = taken(w);
-    tested(code, refusal::TOO_EARLY, n, advance, n)
+    within(Refusal::TooEarly, n, advance, n)
 }
 
 // The eliminator's tuning and state are in force.
@@ -68,57 +69,35 @@ fn switched(head: Head, w: Waiting) -> Head
     }
 }
 
-// What a commit is refused by: 21, then 20, else 0, and then it leaves what `committed` returns.
-pub fn uncommitted(head: Head) -> u32
+// What a commit is refused by: 21, then 20; one that is not leaves what `committed` returns.
+pub fn uncommitted(head: Head) -> Result<(), Refusal>
     requires { Fit head }
     ensures { Called head Commit (committing_of head result) }
 {
-    let w = head.waiting;
-    early(w, head.advance)
+    early(head.waiting, head.advance)
 }
 
 // What waits is in force.
 pub fn committed(head: Head) -> Head
     ensures { result ≡ committed_of head head.waiting }
 {
-    let w = head.waiting;
-    switched(head, w)
+    switched(head, head.waiting)
 }
 
 // Commits the change that was asked for: it is in force before the next sample.
-pub fn commit(head: Head) -> Answer
+pub fn commit(head: Head) -> Result<Head, Refusal>
     requires { Fit head }
-    ensures { Called head Commit result }
+    ensures { Called head Commit (answered head result) }
 {
-    let code = uncommitted(head);
-    if code != 0 {
-        return Answer {
-            refusal: code,
-            head: head,
-        };
-    }
-    Answer {
-        refusal: 0,
-        head: committed(head),
-    }
+    uncommitted(head)?;
+    Ok(committed(head))
 }
 
 // Withdraws the change that was asked for: nothing waits.
-pub fn withdraw(head: Head) -> Answer
+pub fn withdraw(head: Head) -> Result<Head, Refusal>
     requires { Fit head }
-    ensures { Called head Withdraw result }
+    ensures { Called head Withdraw (answered head result) }
 {
-    let w = head.waiting;
-    let code = unasked(w);
-    if code != 0 {
-        return Answer {
-            refusal: code,
-            head: head,
-        };
-    }
-    let f = head.filter;
-    Answer {
-        refusal: 0,
-        head: with(head, f, Waiting::Idle),
-    }
+    unasked(head.waiting)?;
+    Ok(Head { waiting: Waiting::Idle, ..head })
 }
