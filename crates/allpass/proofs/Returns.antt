@@ -17,14 +17,14 @@ use Rattle.refusal.specs.Ranges.{InRange, OrderDelay}
 use Rattle.refusal.proofs.Ranges.{ranges, order-delay}
 use Rattle.thiran.specs.Coefficients.{coefficients}
 use Rattle.thiran.specs.Answers.{limits, design}
-use Rattle.thiran.specs.declared.Design.{Design}
+use Rattle.thiran.specs.Answers.{Design}
 use Rattle.thiran.proofs.Lists.{length-coefficients}
 use Rattle.thiran.proofs.Refusals.{takes_0, design-taken}
 use Rattle.allpass.specs.Allpass.{dot, rest, shift, inner, next, inners}
 use Rattle.allpass.specs.Length.{response, last_above, effective_length}
 use Rattle.allpass.specs.Returns.{Last, fades, values, Returns}
 use Rattle.allpass.specs.Stored.{stored}
-use Rattle.allpass.specs.declared.Measured.{Measured}
+use Rattle.allpass.specs.Length.{Measured}
 use Rattle.allpass.proofs.Bounds.{inner-rest}
 use Rattle.allpass.proofs.Stored.{held-rest}
 

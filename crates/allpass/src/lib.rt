@@ -10,8 +10,10 @@ pub mod sample;
 
 ghost use Rattle.std.specs.Prelude.{◌≡◌, [], ◌≤◌};
 ghost use Rattle.refusal.specs.Orders.{orders};
-ghost use Rattle.allpass.specs.Length.{effective_length};
+ghost use Rattle.allpass.specs.Length.{effective_length, measured};
 ghost use Rattle.allpass.specs.Stored.{held, stored};
+
+use refusal::Refusal;
 
 // v1, v2 and v3; 0 past the order.
 #[derive(Clone, Copy)]
@@ -19,13 +21,6 @@ pub struct State {
     pub v1: i64,
     pub v2: i64,
     pub v3: i64,
-}
-
-// What `effective_length` returns: refusal is 0 for success, and no Result, since C gets this struct by value.
-#[derive(Clone, Copy)]
-pub struct Measured {
-    pub refusal: u32,
-    pub length: u32,
 }
 
 // The state of a filter at rest, of any order.
@@ -66,19 +61,11 @@ pub fn kept(order: u32, v: State) -> State
 }
 
 // The index of the last of the 64 values w that exceeds the threshold in magnitude, plus one, where 1,000,000
-// and then zeros are fed to a resting eliminator; 0 where none does, or the order or the delay is refused.
-pub fn effective_length(order: u32, d: u32, threshold: u32) -> Measured
-    ensures { result ≡ effective_length order d threshold }
+// and then zeros are fed to a resting eliminator; 0 where none does.
+pub fn effective_length(order: u32, d: u32, threshold: u32) -> Result<u32, Refusal>
+    ensures { measured result ≡ effective_length order d threshold }
 {
-    if let Err(refusal) = thiran::refused(order, d) {
-        return Measured {
-            refusal: refusal.number(),
-            length: 0,
-        };
-    }
+    thiran::refused(order, d)?;
     let c = thiran::formula::set(order, d);
-    Measured {
-        refusal: 0,
-        length: response::last_loud(order, c, threshold),
-    }
+    Ok(response::last_loud(order, c, threshold))
 }

@@ -1,6 +1,7 @@
 -- Demand 1 of the routine `coefficients`: each number's condition, 0 for just what is taken, and the answers.
 -- Assumes nothing.
-use mathlib.Core.Path.{◌≡◌}
+use mathlib.Core.Path.{◌≡◌, sym, ap, ◌∙◌}
+use Rattle.std.specs.Prelude.{Ok, Err}
 use Prim.Native.Nat.{ℕ}
 use borrow.Author.Tests.{eq-eqb, ne_eqb}
 use lib.IntN.{pos}
@@ -10,7 +11,10 @@ use Rattle.refusal.specs.Orders.{Takes, order, delay}
 use Rattle.refusal.specs.Returned.{Returned, Kept, AllKept, none, more}
 use Rattle.refusal.proofs.Returned.{returned}
 use Rattle.thiran.specs.Coefficients.{coefficients}
-use Rattle.thiran.specs.Answers.{limits, design}
+use Rattle.refusal.specs.declared.Refusal.{Refusal}
+use Rattle.refusal.specs.Numbers.{number_of}
+use Rattle.refusal.proofs.Numbers.{refused-above}
+use Rattle.thiran.specs.Answers.{limits, design, designed}
 
 module _ (N d : ℕ) where
   pub refusals : Returned (limits N d)
@@ -33,6 +37,11 @@ module _ (N d : ℕ) where
       → design N d ≡ record { refusal = refusal (limits N d); a1 = pos 0; a2 = pos 0; a3 = pos 0 }
   unfolding design
   design-refused f = rw (ne_eqb (refusal (limits N d)) 0 f)
+
+  pub designed-err : (r : Refusal) → number_of r ≡ refusal (limits N d) → designed (Err r) ≡ design N d
+  designed-err r e =
+      ap (λ (n : ℕ). record { refusal = n; a1 = pos 0; a2 = pos 0; a3 = pos 0 }) e
+      ∙ sym (design-refused (λ z. refused-above r (e ∙ z)))
 
   pub design-taken : Takes N d
       → design N d

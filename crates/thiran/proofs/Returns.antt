@@ -18,7 +18,7 @@ use Rattle.thiran.specs.Formula.{a, Same, fraction}
 use Rattle.thiran.specs.Coefficients.{coefficient, coefficients}
 use Rattle.thiran.specs.Answers.{limits, design}
 use Rattle.thiran.specs.Returns.{Returns}
-use Rattle.thiran.specs.declared.Design.{Design}
+use Rattle.thiran.specs.Answers.{Design}
 use Rattle.thiran.proofs.Refusals.{takes, design-refused, design-taken}
 use Rattle.thiran.proofs.Theorems as T
 

@@ -5,7 +5,7 @@ use Rattle.integer.specs.Rounding.{Nearest}
 use Rattle.refusal.specs.Limits.{Between}
 use Rattle.refusal.specs.Ranges.{OrderDelay}
 use Rattle.thiran.specs.Answers.{design}
-use Rattle.thiran.specs.declared.Design.{Design}
+use Rattle.thiran.specs.Answers.{Design}
 
 -- "Order 1: a1 = (1 − D)/(1 + D); a2 = 0", with 4,096 D for d; "65,536 times .., rounded to the nearest"
 pub record First (d : ℕ) (r : Design) : Type 0 where

@@ -5,16 +5,15 @@
 ghost use Rattle.std.specs.Prelude.{◌≡◌};
 ghost use Rattle.refusal.specs.Limits.{refusal as First};
 ghost use Rattle.refusal.specs.Numbers.{code_of};
-ghost use Rattle.thiran.specs.Answers.{limits, design};
+ghost use Rattle.thiran.specs.Answers.{limits, design, designed};
 
 use refusal::{ORDERS, Refusal, within};
 
 pub mod formula;
 
-// What `coefficients` returns: refusal is 0 for success, and no Result, since C gets this struct by value.
+// A1, A2 and A3, 0 past the order.
 #[derive(Clone, Copy)]
-pub struct Design {
-    pub refusal: u32,
+pub struct Taps {
     pub a1: i32,
     pub a2: i32,
     pub a3: i32,
@@ -33,23 +32,15 @@ pub fn refused(order: u32, d: u32) -> Result<(), Refusal>
     )
 }
 
-// A1, A2 and A3 of an order and a delay: 0 past the order, and all 0 where they are refused.
-pub fn coefficients(order: u32, d: u32) -> Design
-    ensures { result ≡ design order d }
+// A1, A2 and A3 of an order and a delay.
+pub fn coefficients(order: u32, d: u32) -> Result<Taps, Refusal>
+    ensures { designed result ≡ design order d }
 {
-    if let Err(refusal) = refused(order, d) {
-        return Design {
-            refusal: refusal.number(),
-            a1: 0,
-            a2: 0,
-            a3: 0,
-        };
-    }
+    refused(order, d)?;
     let c = formula::set(order, d);
-    Design {
-        refusal: 0,
+    Ok(Taps {
         a1: c.a1 as i32,
         a2: c.a2 as i32,
         a3: c.a3 as i32,
-    }
+    })
 }
