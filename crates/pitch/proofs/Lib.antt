@@ -3,3 +3,4 @@ pub mod Theorems
 mod Quotient
 pub mod Lengths
 pub mod Returns
+pub mod Refused

@@ -1,6 +1,6 @@
 -- The period as the code has it, 2^42 above and 2^(o + 6) below, where o + 6 is (m + 3) / 12; and its size.
 -- Assumes nothing.
-use mathlib.Core.Path.{◌≡◌, ap}
+use mathlib.Core.Path.{◌≡◌, refl, ap}
 use Prim.Native.Nat.{ℕ, ◌+◌, ◌*◌, ◌/◌, ◌^◌, ◌≤◌, ◌<◌}
 use native.Mathlib.Omega.{arith}
 use native.Mathlib.Nat.{mul-le-mul, div-lt_iff_lt-mul}
@@ -46,6 +46,11 @@ module _ (m : ℕ) where
       nearest-same (pos (fs * 2 ^ 42)) p (tuned * 2 ^ power) (tuned * 2 ^ up (o m))
       (omega (arith, divisor_least m power)) (omega (arith, divisor_least m (up (o m))))
       (ap pos (omega (arith, ap (λ (x : ℕ). fs * tuned * x) shifted)))
+
+-- of numbers that are not below 0 the nearest is not
+pub not_below : (n q : ℕ) → nearest (pos n) q ≡ pos (up (nearest (pos n) q))
+unfolding nearest floor
+not_below n q = refl
 
 -- the period fits 32 bits
 pub small : (n q : ℕ) → n ≤ 192000 * 2 ^ 42 → 440 * 2 ^ 24 ≤ q → up (nearest (pos n) q) < 2 ^ 32

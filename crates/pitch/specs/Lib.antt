@@ -1,3 +1,4 @@
 pub mod Pitch
+pub mod Parts
 pub mod Theorems
 pub mod Returns

@@ -4,12 +4,13 @@
 
 ghost use Rattle.std.specs.Prelude.{◌≡◌, [], ◌∷◌, ◌+◌, ◌*◌, ◌/◌, ◌^◌, ◌≤◌, ◌<◌, pos, get_or};
 ghost use Rattle.integer.specs.Parts.{up};
-ghost use Rattle.integer.specs.Rounding.{nearest};
 ghost use Rattle.refusal.specs.Limits.{refusal};
 ghost use Rattle.refusal.specs.Orders.{orders};
 ghost use Rattle.pitch.specs.Pitch.{octave, k, period, split_l, note_length, answer, pitch};
+ghost use Rattle.pitch.specs.Parts.{pitch_of};
 
-use refusal::{NOTE, NOTE_LENGTH, ORDER, RATE, outside};
+use integer::{Value, round_half_up};
+use refusal::{LONGEST, ORDERS, Refusal, within};
 
 // Entry k is nearest to 2^24 × 2^(k/12).
 const OCTAVE: [u64; 12] = [
@@ -17,12 +18,39 @@ const OCTAVE: [u64; 12] = [
     26_632_170, 28_215_802, 29_893_600, 31_671_166,
 ];
 
-// What `note` returns: refusal is 0 for success.
+// The length and the delay of a voice.
+#[derive(Clone, Copy)]
+pub struct Parts {
+    pub length: u32,
+    pub delay: u32,
+}
+
+// What `note` returns: refusal is 0 for success, and no Result, since C gets these numbers.
 #[derive(Clone, Copy)]
 pub struct Pitch {
     pub refusal: u32,
     pub length: u32,
     pub delay: u32,
+}
+
+// Both 0 where they are refused.
+impl From<Result<Parts, Refusal>> for Pitch {
+    ghost from_gives = { λ r p. p ≡ pitch_of r };
+
+    fn from(answer: Result<Parts, Refusal>) -> Pitch {
+        match answer {
+            Ok(parts) => Pitch {
+                refusal: 0,
+                length: parts.length,
+                delay: parts.delay,
+            },
+            Err(refusal) => Pitch {
+                refusal: refusal.number(),
+                length: 0,
+                delay: 0,
+            },
+        }
+    }
 }
 
 // t, the entry at a place.
@@ -42,20 +70,14 @@ fn divisor(m: u32) -> u64
     (440 * entry((raised % 12) as usize)) << (raised / 12)
 }
 
-// above / below to the nearest, a half upward.
-fn round_half_up(above: u64, below: u64) -> u64
-    requires { (0 < below) × (2 * above + 2 * below < 2 ^ 64) }
-    ensures { pos result ≡ nearest (pos above) below }
-{
-    (2 * above + below) / (2 * below)
-}
-
 // T, with 2^42 above for that power.
 fn loop_period(rate: u32, m: u32) -> u32
     requires { (rate ≤ 192000) × (m ≤ 127) }
     ensures { pos result ≡ period rate m }
 {
-    round_half_up((rate as u64) * 4_398_046_511_104, divisor(m)) as u32
+    let above = rate as i64 * 4_398_046_511_104;
+    let below = divisor(m);
+    round_half_up(Value { n: above }, below).n as u32
 }
 
 // L where T is t, and 0 where L is below zero.
@@ -63,56 +85,34 @@ fn whole(order: u32, t: u32) -> u32
     requires { (1 ≤ order) × (order ≤ orders) }
     ensures { result ≡ up (split_l order (pos t)) }
 {
-    if t <= 4_096 * order {
-        return 0;
-    }
-    (t - 4_096 * order - 1) / 4_096
+    t.saturating_sub(4_096 * order + 1) / 4_096
 }
 
 // What is returned where only L is still to be tested, and T is t.
-pub fn split(order: u32, t: u32) -> Pitch
+pub fn split(order: u32, t: u32) -> Result<Parts, Refusal>
     requires { (1 ≤ order) × (order ≤ orders) }
-    ensures { result ≡ answer order (pos t) (refusal (note_length (split_l order (pos t)) ∷ [])) }
+    ensures { pitch_of result ≡ answer order (pos t) (refusal (note_length (split_l order (pos t)) ∷ [])) }
 {
     let length = whole(order, t);
-    if outside(length, 1, refusal::LONGEST) {
-        return Pitch {
-            refusal: NOTE_LENGTH,
-            length: 0,
-            delay: 0,
-        };
-    }
-    Pitch {
-        refusal: 0,
+    within(Refusal::NoteLength, length, 1, LONGEST)?;
+    Ok(Parts {
         length,
         delay: t - 2_048 - 4_096 * length,
-    }
+    })
+}
+
+fn tested(order: u32, rate: u32, m: u32) -> Result<Parts, Refusal>
+    ensures { pitch_of result ≡ pitch order rate m }
+{
+    within(Refusal::Order, order, 1, ORDERS)?;
+    within(Refusal::Rate, rate, 8_000, 192_000)?;
+    within(Refusal::Note, m, 0, 127)?;
+    split(order, loop_period(rate, m))
 }
 
 // The length and the delay by which a voice of an order sounds a note; both 0 where they are refused.
 pub fn note(order: u32, rate: u32, m: u32) -> Pitch
     ensures { result ≡ pitch order rate m }
 {
-    if outside(order, 1, refusal::ORDERS) {
-        return Pitch {
-            refusal: ORDER,
-            length: 0,
-            delay: 0,
-        };
-    }
-    if outside(rate, 8_000, 192_000) {
-        return Pitch {
-            refusal: RATE,
-            length: 0,
-            delay: 0,
-        };
-    }
-    if outside(m, 0, 127) {
-        return Pitch {
-            refusal: NOTE,
-            length: 0,
-            delay: 0,
-        };
-    }
-    split(order, loop_period(rate, m))
+    tested(order, rate, m).into()
 }
