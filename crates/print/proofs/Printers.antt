@@ -1,8 +1,8 @@
 -- A call that puts a text into a printer's buffer, after one that made room or put another; and a call on a printer
 -- whose standard output took no more. What a printer prints of each of a list.
-use Rattle.std.proofs.Common.{◌≡◌, ℕ, ◌≤◌, ◌<◌, ◌+◌, List, [], ◌∷◌, ◌++◌, length, Some, None, refl, sym, ap, subst, ◌∙◌, arith, length-append}
+use Rattle.std.proofs.Common.{◌≡◌, ℕ, ◌≤◌, List, [], ◌∷◌, ◌++◌, Some, None, refl, sym, ap, subst, ◌∙◌, arith}
 use Rattle.print.specs.declared.Printer.{Printer}
-use Rattle.print.specs.Printed.{Each, none}
+use Rattle.print.specs.Printed.{none}
 use Rattle.print.specs.Printer.{place, Prints, PrintsEach}
 use Rattle.print.proofs.Texts.{another}
 

@@ -37,7 +37,9 @@ impl Printer {
     fn written(&self) -> Option<usize>
         ensures { Went (place result) }
     {
-        let s = self.buffer.get(..self.held?)?;
+        let Some(s) = self.buffer.get(..self.held?) else {
+            return None;
+        };
         match self.out.to.write_all(s) {
             Ok(()) => Some(0),
             Err(e) => {

@@ -9,7 +9,9 @@ use native.Mathlib.Nat.{le_refl, pow-zero, pow-suc}
 use native.Mathlib.Decide.{dec_lt}
 use borrow.Author.Tests.{leb-false}
 use lib.Dec.{leb, leb→le}
-use lib.IntN.{ℤ, pos, negsuc, nat_abs}
+use lib.IntN.{ℤ, pos, negsuc}
+use mir.Syntax.{w64}
+use mir.Val.{SFits}
 use lib.ListN.{length}
 use lib.Pow.{pow-add}
 use lib.Seq.{length-paste}
@@ -85,12 +87,11 @@ spelled_past n before at low past =
       wrote = wrote_past (last_digits 10 count.0 n) before at past;
     }
 
-pub signed_past : (x : ℤ) (before : List ℕ) (at : ℕ) → nat_abs x < 2 ^ 64 → length before < at
-    → Signed x before at before at
-signed_past (pos n) before at low past = spelled_past n before at low past
-signed_past (negsuc n) before at low past = record {
+pub signed_past : (x : ℤ) (before : List ℕ) (at : ℕ) → SFits w64 x → length before < at → Signed x before at before at
+signed_past (pos n) before at fits past = spelled_past n before at (omega (arith, fits.sfits)) past
+signed_past (negsuc n) before at fits past = record {
   between = before;
   start = at;
   sign = wrote_past (45 ∷ []) before at past;
-  number = spelled_past (suc n) before at low past;
+  number = spelled_past (suc n) before at (omega (arith, fits.sfits)) past;
 }

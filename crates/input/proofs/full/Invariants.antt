@@ -1,5 +1,4 @@
 -- `input::full` meets its contract: the room holds more bytes after each read.
--- Assumes nothing.
 use mathlib.Core.Path.{◌≡◌}
 use Prim.Native.Nat.{◌-◌, ◌≤◌}
 use borrow.Author.Rules.{rules}

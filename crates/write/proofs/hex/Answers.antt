@@ -1,6 +1,5 @@
 -- `write::hex` meets its contract: a byte has two digits.
-use Rattle.std.proofs.Common.{List, ℕ, arith, subst, ◌∙◌}
-use Rattle.write.specs.Written.{Wrote}
+use Rattle.std.proofs.Common.{arith}
 use Rattle.write.proofs.TwoDigits.{two_digits}
 use Rattle.write.proofs.hex.Goals as goal
 

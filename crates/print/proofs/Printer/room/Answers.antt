@@ -1,5 +1,5 @@
 -- `print::Printer::room` meets its contract: by whether 64 bytes are left.
-use Rattle.std.proofs.Common.{refl, ap, sym, arith}
+use Rattle.std.proofs.Common.{◌<◌, refl, ap, arith}
 use Rattle.print.specs.Printed.{left, made}
 use Rattle.print.specs.Printer.{place}
 use Rattle.print.proofs.Printer.room.Goals as goal
@@ -13,4 +13,9 @@ returns-in-Some c =
 pub returns-in_default : goal.returns-in_default
 returns-in_default c =
     let f = c.flush.ensures in
-    record { does = (f.does.0, made ? f.does.1); within = f.within; out = f.out }
+    let little : 4032 < place c.args.self.now.held =
+    elim c.in_default.branch [
+      | in_default-via-in-Some+else-n-le4032 w ↦ omega (arith, ap place w.in-Some.is, w.if-n-le4032.false)
+      | in_default-via-in_default w ↦ omega (arith, ap place w.in_default.is)
+    ] in
+    record { does = (f.does.0, made little f.does.1); within = f.within; out = f.out }

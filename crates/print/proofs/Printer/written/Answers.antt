@@ -5,8 +5,8 @@ use Rattle.print.proofs.Printer.written.Goals as goal
 pub returns-in_err-self : goal.returns-in_err-self
 returns-in_err-self c = rw c.from_residual.ensures less
 
-pub returns-in_err-s : goal.returns-in_err-s
-returns-in_err-s c = rw c.from_residual-in_err-s.ensures less
+pub returns-in_default : goal.returns-in_default
+returns-in_default c = less
 
 pub returns-in-Ok : goal.returns-in-Ok
 returns-in-Ok c = all
