@@ -1,0 +1,124 @@
+"""Point 4: conversion, copying, comparison, order and printing written by hand."""
+import collections
+import re
+
+from read import INTEGERS, flat, parts
+
+
+def literals(body):
+    """Each struct or array literal of a body: its place, its name and its parts."""
+    for opened in re.finditer(r"(?<![\w\])&] )(?<!-> )\b([A-Z]\w*)(?:<[^>]*>)? \{", body):
+        depth, k = 0, opened.end() - 1
+        for k in range(opened.end() - 1, len(body)):
+            depth += (body[k] == "{") - (body[k] == "}")
+            if depth == 0:
+                break
+        yield opened.start(), opened.group(1), parts(body[opened.end() : k])
+    for opened in re.finditer(r"(?:^|[=({,\s])\[(?=[^\]]*,)", body):
+        start = body.index("[", opened.start())
+        depth, k = 0, start
+        for k in range(start, len(body)):
+            depth += (body[k] == "[") - (body[k] == "]")
+            if depth == 0:
+                break
+        yield start, "[]", parts(body[start + 1 : k])
+
+
+def copied(function):
+    """Structs built field by field from another value, and from or into an array place by place."""
+    bound = dict(re.findall(r"\blet (\w+)(?:: \w+)? = ([^;{}]+);", function.body))
+    for at, name, fields in literals(function.body):
+        if len(fields) < 3:
+            continue
+        values = [field.partition(": ")[2] or field for field in fields] if name != "[]" else fields
+        keys = [field.partition(": ")[0] for field in fields]
+        values = [bound.get(value, value) for value in values]
+        if name == "[]":
+            if sum(bool(re.fullmatch(r"\w+(?:\.\w+)+", value)) for value in values) * 2 > len(fields):
+                yield function.place("c. array made of a struct's fields", f"{len(fields)} places", at)
+            continue
+        placed = sum(bool(re.fullmatch(r"\w+\[\w+\]|word\(.*\)", value)) for value in values)
+        paths = [re.fullmatch(r"(?:\w+\()?(\w+)((?:\.\w+)+)(?: as \w+|\))?", value) for value in values]
+        same = collections.Counter(path.group(1) for path, key in zip(paths, keys) if path and path.group(2).endswith("." + key))
+        if placed * 2 >= len(fields):
+            yield function.place("c. struct made of an array's places", f"{name} of {placed} places", at)
+        elif same and same.most_common(1)[0][1] * 2 >= len(fields):
+            source, n = same.most_common(1)[0]
+            yield function.place("b. struct copied field by field", f"{name}: {n} of {len(fields)} fields of {source}", at)
+        elif sum(bool(path) for path in paths) * 2 > len(fields):
+            yield function.place("b. struct made of other structs' fields", f"{name}: {sum(map(bool, paths))} of {len(fields)}", at)
+
+
+WIDE = r"(?:16_777_216|8_388_608|2_147_483_648|4_294_967_296|4_294_967_295)"
+
+
+def converted(checkout, function):
+    enums = {type.name.rsplit("::", 1)[-1] for type in checkout.types if type.kind == "enum"}
+    body = flat(function.body)
+    if re.fullmatch(r"(?:let \w+ = )?\(?[\w.]+(?:\[\w+\])?(?: as \w+\)?)+(?:; \w+)?", body) or \
+            re.fullmatch(r"(?:[A-Z]\w* \{ \w+: )[\w.]+ as \w+,? \}", body):
+        yield function.place("a. conversion in a function of its own", f"-> {function.result}: {body}")
+    arms = re.findall(r"\b([A-Z]\w*)::\w+(?:\([^)]*\))? => (\w+\(?)", function.body)
+    numbers = [given for name, given in arms if name in enums and re.fullmatch(r"\d+|\w+\(", given)]
+    if function.result in INTEGERS and len(numbers) == len(arms) >= 2 and any(given.isdigit() for given in numbers):
+        yield function.place("a. number of an enum by match", f"-> {function.result}")
+    if function.result in enums and re.search(r"== \d", function.body) and any(kind in INTEGERS for _, kind in function.parameters):
+        yield function.place("a. enum of a number by tests", f"-> {function.result}")
+    if re.search(rf"[-+%] {WIDE}|{WIDE} [-+]|(?:signed|bits)\([^;]*{WIDE}|(?:plus|minus)\([^;]*n: {WIDE}", function.body):
+        yield function.place("d. sign or wrapping by arithmetic", f"-> {function.result or '()'}")
+    if re.search(r"\* 256\b|\b256 \*|/ 256\b|% 256\b|\+ 65_536 \*|\+ 4_294_967_296 \*", function.body):
+        yield function.place("d. bytes of a number by arithmetic", f"-> {function.result or '()'}")
+    if re.search(r"\b10 \* \w|\b16 \* \w+ \+|/ 16\)", function.body):
+        yield function.place("d. digits of a number by arithmetic", f"-> {function.result or '()'}")
+
+
+def compared(function):
+    names = [name for name, _ in function.parameters]
+    pairs = [hit for hit in re.finditer(r"\b(\w+) (==|!=) (\w+)\b", function.body) if hit.group(1) in names and hit.group(3) in names]
+    elements = re.search(r"\b\w+\[[^\]]+\] (?:==|!=) \w+\[[^\]]+\]", function.body)
+    if function.result == "bool" and (elements or len(pairs) >= 2):
+        yield function.place("e. comparison written out", f"{'elements' if elements else len(pairs)}")
+    chosen = re.search(r"\bif ([\w.]+) (<|<=|>|>=) ([\w.]+) \{\s*(?:return )?([\w.]+);?\s*\}(?:\s*else \{)?\s*([\w.]+)\s*\}?", function.body)
+    if chosen and {chosen.group(1), chosen.group(3)} == {chosen.group(4), chosen.group(5)}:
+        yield function.place("f. least or greatest of two by a test", f"-> {function.result}", chosen.start())
+    bounds = re.findall(r"\bif [\w.]+ [<>] (-?\d[\d_]*) \{\s*return (?:Value \{ n: )?\1(?: \})?;", function.body)
+    bounds += re.findall(r"\bif (\d[\d_]*) < [\w.]+ \{\s*return \1;", function.body)
+    if bounds:
+        yield function.place("f. limit by a test", f"{', '.join(bounds)}")
+    if re.search(r"\b0 - \w|\b0 - \(", function.body) and re.search(r"as u\d\d", function.body) or \
+            re.search(r"\bmagnitude$", function.name):
+        yield function.place("f. magnitude by a test", f"-> {function.result}")
+
+
+def moved(function):
+    for loop in re.finditer(r"\bwhile [^{]*\{", function.body):
+        depth, k = 0, loop.end() - 1
+        for k in range(loop.end() - 1, len(function.body)):
+            depth += (function.body[k] == "{") - (function.body[k] == "}")
+            if depth == 0:
+                break
+        inside = function.body[loop.end() : k]
+        direct = re.search(r"\b\w+\[[^\]]+\] = \w+\[[^\]]+\];", inside)
+        through = re.search(r"\blet (\w+) = \w+\[[^\]]+\];\s*\w+\[[^\]]+\] = \1;", inside)
+        if direct or through:
+            yield function.place("g. elements copied by a loop", flat((direct or through).group()), loop.start())
+
+
+def printed(function):
+    names = dict(function.parameters)
+    given = {"out", "buffer", "at", "told", "place", "digits"}
+    values = [(name, kind) for name, kind in function.parameters if name not in given]
+    to = re.match(r"Out|Stdout|Stderr", names.get("out", "")) or "buffer" in names
+    if to and values and re.match(r"usize|\(\)|$|u32", function.result):
+        if all(kind in INTEGERS | {"Value", "State", "Pluck", "Waiting", "Filter", "Kind", "Head", "Played"} for _, kind in values):
+            yield function.place("h. value printed by a function of its own", ", ".join(f"{n}: {k}" for n, k in values))
+
+
+def by_hand(checkout):
+    for function in checkout.functions:
+        for rule in (copied, compared, moved, printed):
+            yield from rule(function)
+        yield from converted(checkout, function)
+    for type in checkout.types:
+        if type.kind == "enum" and not re.search(r"\bPartialEq\b", type.attributes):
+            yield type.place("i. enum without derived equality", type.attributes.strip("#[]"))
