@@ -69,8 +69,8 @@ Thrice s at there x y z a b c =
     (a ≡ read s at there x) × (b ≡ read s (at + 4) there y) × (c ≡ read s (at + 8) there z)
 
 pub change-read : (s : List ℕ) (at there : ℕ) (c : ChangeWords) → c.kind ≡ read s at there 0
-    → Thrice s (at + 4) there 0 0 0 c.order c.length c.delay → c.taken ≡ read s (at + 16) there 0
-    → Thrice s (at + 20) there 0 0 0 c.v1 c.v2 c.v3 → ChangeRead s at there c
+    → Thrice s (at + 4) there 0 0 0 c.tuning.order c.tuning.length c.tuning.delay → c.taken ≡ read s (at + 16) there 0
+    → Thrice s (at + 20) there 0 0 0 c.state.a c.state.b c.state.c → ChangeRead s at there c
 change-read s at there c k t n v = record {
   kind = k;
   order = t.0;
@@ -92,23 +92,23 @@ pub found-read : (s : List ℕ) (j k at there other : ℕ) → at ≡ 1 + ahead 
     → there ≡ get_or s 0 0 / 2 ^ j % 2 → found s j k other ≡ read s at there other
 found-read s j k at there other e f = sym (at-found s j k at there other e f refl)
 
-same : (w : Words) (i : Numbers) → w.order ≡ i.tuning.N → w.length ≡ i.tuning.L → w.delay ≡ i.tuning.d
-    → w.loss ≡ i.G → w.advance ≡ i.Na → value w.last ≡ i.last → value w.v1 ≡ i.state.v1
-    → value w.v2 ≡ i.state.v2 → value w.v3 ≡ i.state.v3 → w.change.kind ≡ i.change.kind
-    → w.change.order ≡ i.change.tuning.N → w.change.length ≡ i.change.tuning.L
-    → w.change.delay ≡ i.change.tuning.d → w.change.taken ≡ i.change.taken
-    → value w.change.v1 ≡ i.change.state.v1 → value w.change.v2 ≡ i.change.state.v2
-    → value w.change.v3 ≡ i.change.state.v3 → w.amplitude ≡ i.pluck.amplitude
-    → w.left ≡ i.pluck.left → w.noise ≡ i.pluck.noise → numbers_of w i.line ≡ i
+same : (w : Words) (i : Numbers) → w.tuning.order ≡ i.tuning.N → w.tuning.length ≡ i.tuning.L → w.tuning.delay ≡ i.tuning.d
+    → w.loss ≡ i.G → w.advance ≡ i.Na → value w.last ≡ i.last → value w.state.a ≡ i.state.v1
+    → value w.state.b ≡ i.state.v2 → value w.state.c ≡ i.state.v3 → w.change.kind ≡ i.change.kind
+    → w.change.tuning.order ≡ i.change.tuning.N → w.change.tuning.length ≡ i.change.tuning.L
+    → w.change.tuning.delay ≡ i.change.tuning.d → w.change.taken ≡ i.change.taken
+    → value w.change.state.a ≡ i.change.state.v1 → value w.change.state.b ≡ i.change.state.v2
+    → value w.change.state.c ≡ i.change.state.v3 → w.pluck.amplitude ≡ i.pluck.amplitude
+    → w.pluck.left ≡ i.pluck.left → w.pluck.noise ≡ i.pluck.noise → numbers_of w i.line ≡ i
 same w i N L d G Na y a b c k N' L' d' n a' b' c' p l z =
     rw (N, L, d, G, Na, y, a, b, c, k, N', L', d', n, a', b', c', p, l, z)
 
 module _ (s : List ℕ) (m : ℕ) (map : m ≡ get_or s 0 0) (p : Offsets) (at : Placed m p) (w : Words)
-    (t : Thrice s 1 (m % 2) 1 1 4096 w.order w.length w.delay) (G : w.loss ≡ read s p.loss (m / 2 % 2) 0)
+    (t : Thrice s 1 (m % 2) 1 1 4096 w.tuning.order w.tuning.length w.tuning.delay) (G : w.loss ≡ read s p.loss (m / 2 % 2) 0)
     (Na : w.advance ≡ read s p.advance (m / 4 % 2) 0) (y : w.last ≡ read s p.last (m / 8 % 2) 0)
-    (v : Thrice s p.state (m / 16 % 2) 0 0 0 w.v1 w.v2 w.v3)
+    (v : Thrice s p.state (m / 16 % 2) 0 0 0 w.state.a w.state.b w.state.c)
     (c : ChangeRead s p.change (m / 32 % 2) w.change)
-    (u : Thrice s p.pluck (m / 64 % 2) 0 0 0 w.amplitude w.left w.noise) where
+    (u : Thrice s p.pluck (m / 64 % 2) 0 0 0 w.pluck.amplitude w.pluck.left w.pluck.noise) where
   r : Reads s (held_in s)
   r = refuses.reads s
 

@@ -72,7 +72,7 @@ filter-tuned f t e k h =
 
 -- ---- what waits
 pub announced_waits : (Na : ℕ) (c : ChangeWords) (e : Filter) → c.kind ≡ 1 → c.taken < Na
-    → Makes (tuning c.order c.length c.delay) (three_of c.v1 c.v2 c.v3) e
+    → Makes (tuning c.tuning.order c.tuning.length c.tuning.delay) (three_of c.state.a c.state.b c.state.c) e
     → (some (prepared_of Announced e c.taken) ≡ waits c.kind (change_of c)) × Preparing Na Announced e c.taken
 announced_waits Na c e k n m = (
   rw k (rw (m.state, ap (λ (t : Tuning). t.N) m.tuning, ap (λ (t : Tuning). t.L) m.tuning, ap (λ (t : Tuning). t.d) m.tuning)),
@@ -80,7 +80,7 @@ announced_waits Na c e k n m = (
 )
 
 pub asked_waits : (Na : ℕ) (c : ChangeWords) (e : Filter) → c.kind ≡ 2 → c.taken ≤ Na
-    → Makes (tuning c.order c.length c.delay) (three_of c.v1 c.v2 c.v3) e
+    → Makes (tuning c.tuning.order c.tuning.length c.tuning.delay) (three_of c.state.a c.state.b c.state.c) e
     → (some (prepared_of Asked e c.taken) ≡ waits c.kind (change_of c)) × Preparing Na Asked e c.taken
 asked_waits Na c e k n m = (
   rw k (rw (m.state, ap (λ (t : Tuning). t.N) m.tuning, ap (λ (t : Tuning). t.L) m.tuning, ap (λ (t : Tuning). t.d) m.tuning)),
@@ -92,13 +92,13 @@ asked_waits Na c e k n m = (
 
 -- ---- the head
 pub voice-is : (w : Words) (h : Head) (l : List ℤ)
-    → Makes (tuning w.order w.length w.delay) (three_of w.v1 w.v2 w.v3) h.filter
+    → Makes (tuning w.tuning.order w.tuning.length w.tuning.delay) (three_of w.state.a w.state.b w.state.c) h.filter
     → h.loss ≡ w.loss → h.advance ≡ w.advance → h.last.n ≡ value w.last
     → waiting_of h.waiting ≡ waits w.change.kind (change_of w.change)
-    → pluck_of h.pluck ≡ record { amplitude = w.amplitude; left = w.left; noise = w.noise }
+    → pluck_of h.pluck ≡ record { amplitude = w.pluck.amplitude; left = w.pluck.left; noise = w.pluck.noise }
     → voice_of h ≡ (state_of_numbers (numbers_of w l)).voice
 voice-is w h l m G Na y c p =
-    let N : h.filter.tuning.order ≡ w.order = ap (λ (t : Tuning). t.N) m.tuning in
-    let L : h.filter.tuning.length ≡ w.length = ap (λ (t : Tuning). t.L) m.tuning in
-    let d : h.filter.tuning.delay ≡ w.delay = ap (λ (t : Tuning). t.d) m.tuning in
+    let N : h.filter.tuning.order ≡ w.tuning.order = ap (λ (t : Tuning). t.N) m.tuning in
+    let L : h.filter.tuning.length ≡ w.tuning.length = ap (λ (t : Tuning). t.L) m.tuning in
+    let d : h.filter.tuning.delay ≡ w.tuning.delay = ap (λ (t : Tuning). t.d) m.tuning in
     rw (N, L, d, m.state, G, Na, y, c, p)

@@ -98,27 +98,27 @@ value-zero w e = go (dec_lt w 2147483648)
         absurd (omega arith)
 
 pub none-waits : (c : Words) (n : ℕ)
-    → n ≡ c.kind + (c.order + c.length + c.delay) + c.taken + (c.v1 + c.v2 + c.v3)
+    → n ≡ c.kind + (c.tuning.order + c.tuning.length + c.tuning.delay) + c.taken + (c.state.a + c.state.b + c.state.c)
     → Says (eqb n 0) (AllZero (change_of c))
 none-waits c n e = record {
   yes = λ t.
       let z : n ≡ 0 = eqb-true n 0 t in
-      let N : c.order ≡ 0 = omega arith in
-      let L : c.length ≡ 0 = omega arith in
-      let d : c.delay ≡ 0 = omega arith in
-      let a : c.v1 ≡ 0 = omega arith in
-      let b : c.v2 ≡ 0 = omega arith in
-      let v : c.v3 ≡ 0 = omega arith in
+      let N : c.tuning.order ≡ 0 = omega arith in
+      let L : c.tuning.length ≡ 0 = omega arith in
+      let d : c.tuning.delay ≡ 0 = omega arith in
+      let a : c.state.a ≡ 0 = omega arith in
+      let b : c.state.b ≡ 0 = omega arith in
+      let v : c.state.c ≡ 0 = omega arith in
       record { kind = omega arith; tuned = rw (N, L, d); taken = omega arith; state = rw (a, b, v) };
   no = λ z.
       let t = z.tuned in
       let v = z.state in
-      let N : c.order ≡ 0 = ap (λ (u : Tuning). u.N) t in
-      let L : c.length ≡ 0 = ap (λ (u : Tuning). u.L) t in
-      let d : c.delay ≡ 0 = ap (λ (u : Tuning). u.d) t in
-      let x = value-zero c.v1 (ap (λ (u : Three). u.v1) v) in
-      let y = value-zero c.v2 (ap (λ (u : Three). u.v2) v) in
-      let w = value-zero c.v3 (ap (λ (u : Three). u.v3) v) in
+      let N : c.tuning.order ≡ 0 = ap (λ (u : Tuning). u.N) t in
+      let L : c.tuning.length ≡ 0 = ap (λ (u : Tuning). u.L) t in
+      let d : c.tuning.delay ≡ 0 = ap (λ (u : Tuning). u.d) t in
+      let x = value-zero c.state.a (ap (λ (u : Three). u.v1) v) in
+      let y = value-zero c.state.b (ap (λ (u : Three). u.v2) v) in
+      let w = value-zero c.state.c (ap (λ (u : Three). u.v3) v) in
       eq-eqb n 0 (omega (arith, z.kind, z.taken));
 }
 
@@ -147,7 +147,7 @@ module _ (Na : ℕ) (c : Words) where
   early-or-late k t h = t (comes k h).taken
 
   pub by_filter : (r : Bool) → (c.kind ≡ 0 → ⊥) → TakenIn Na c.kind c.taken
-      → Says r (FilterIn (tuning c.order c.length c.delay) (three_of c.v1 c.v2 c.v3))
+      → Says r (FilterIn (tuning c.tuning.order c.tuning.length c.tuning.delay) (three_of c.state.a c.state.b c.state.c))
       → Says r (ChangeIn Na (change_of c))
   by_filter r k t s = record {
     yes = λ e. coming (record { taken = t; filter = s.yes e });

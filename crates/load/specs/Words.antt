@@ -29,13 +29,13 @@ pub record Placed (m : ℕ) (p : Offsets) : Type 0 where
 -- the numbers of a waiting change that starts at a place
 pub record ChangeRead (s : List ℕ) (at there : ℕ) (c : ChangeWords) : Type 0 where
   pub kind : c.kind ≡ read s at there 0
-  pub order : c.order ≡ read s (at + 4) there 0
-  pub length : c.length ≡ read s (at + 8) there 0
-  pub delay : c.delay ≡ read s (at + 12) there 0
+  pub order : c.tuning.order ≡ read s (at + 4) there 0
+  pub length : c.tuning.length ≡ read s (at + 8) there 0
+  pub delay : c.tuning.delay ≡ read s (at + 12) there 0
   pub taken : c.taken ≡ read s (at + 16) there 0
-  pub v1 : c.v1 ≡ read s (at + 20) there 0
-  pub v2 : c.v2 ≡ read s (at + 24) there 0
-  pub v3 : c.v3 ≡ read s (at + 28) there 0
+  pub v1 : c.state.a ≡ read s (at + 20) there 0
+  pub v2 : c.state.b ≡ read s (at + 24) there 0
+  pub v3 : c.state.c ≡ read s (at + 28) there 0
 
 -- a state whose numbers stand in two's complement
 abbrev pub three_of : ℕ → ℕ → ℕ → Three
@@ -44,21 +44,21 @@ three_of a b c = record { v1 = value a; v2 = value b; v3 = value c }
 abbrev pub change_of : ChangeWords → Change
 change_of c = record {
   kind = c.kind;
-  tuning = tuning c.order c.length c.delay;
+  tuning = tuning c.tuning.order c.tuning.length c.tuning.delay;
   taken = c.taken;
-  state = three_of c.v1 c.v2 c.v3;
+  state = three_of c.state.a c.state.b c.state.c;
 }
 
 -- the numbers of a voice: those of the words, and those of a line
 abbrev pub numbers_of : Words → List ℤ → Numbers
 numbers_of w l = record {
-  tuning = tuning w.order w.length w.delay;
+  tuning = tuning w.tuning.order w.tuning.length w.tuning.delay;
   G = w.loss;
   Na = w.advance;
   last = value w.last;
-  state = three_of w.v1 w.v2 w.v3;
+  state = three_of w.state.a w.state.b w.state.c;
   change = change_of w.change;
-  pluck = record { amplitude = w.amplitude; left = w.left; noise = w.noise };
+  pluck = record { amplitude = w.pluck.amplitude; left = w.pluck.left; noise = w.pluck.noise };
   line = l;
 }
 
@@ -70,7 +70,7 @@ pub data TakenIn (Na : ℕ) (kind taken : ℕ) : Type 0 where
 -- a change of kind 1 or 2
 pub record Comes (Na : ℕ) (c : ChangeWords) : Type 0 where
   pub taken : TakenIn Na c.kind c.taken
-  pub filter : FilterIn (tuning c.order c.length c.delay) (three_of c.v1 c.v2 c.v3)
+  pub filter : FilterIn (tuning c.tuning.order c.tuning.length c.tuning.delay) (three_of c.state.a c.state.b c.state.c)
 
 -- every number of the line that starts at a place is a sample
 abbrev pub LineIn : List ℕ → ℕ → Type 0
@@ -84,9 +84,9 @@ pub record PluckIn (p : Pluck) : Type 0 where
 
 -- all limits but the line's
 pub record HeadIn (w : Words) : Type 0 where
-  pub filter : FilterIn (tuning w.order w.length w.delay) (three_of w.v1 w.v2 w.v3)
+  pub filter : FilterIn (tuning w.tuning.order w.tuning.length w.tuning.delay) (three_of w.state.a w.state.b w.state.c)
   pub loss : w.loss ≤ 65535
   pub advance : w.advance ≤ 64
   pub last : nat_abs (value w.last) ≤ 8388607
   pub change : ChangeIn w.advance (change_of w.change)
-  pub pluck : PluckIn (record { amplitude = w.amplitude; left = w.left; noise = w.noise })
+  pub pluck : PluckIn (record { amplitude = w.pluck.amplitude; left = w.pluck.left; noise = w.pluck.noise })

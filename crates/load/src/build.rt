@@ -1,19 +1,18 @@
 // The head of a stored voice, made of its numbers, which are within their limits.
 ghost use Rattle.std.specs.Prelude.{◌≡◌};
-ghost use Rattle.rule.specs.Voice.{tuning};
 ghost use Rattle.form.specs.Numbers.{waiting_of as Waits};
 ghost use Rattle.form.specs.Refusals.{FilterIn, ChangeIn};
-ghost use Rattle.voice.specs.Struct.{waiting_of, pluck_of};
-ghost use Rattle.voice.specs.Valid.{Waiting-valid, Plucked};
-ghost use Rattle.load.specs.Words.{three_of, change_of, Comes, PluckIn, HeadIn};
+ghost use Rattle.voice.specs.Struct.{tuning_of, waiting_of};
+ghost use Rattle.voice.specs.Valid.{Waiting-valid};
+ghost use Rattle.load.specs.Words.{three_of, change_of, Comes, HeadIn};
 ghost use Rattle.load.specs.Loaded.{Makes, Builds};
 ghost use Rattle.form.specs.Parts.{value};
 
-use crate::words::{Change, Words};
+use crate::words::{Change, Three, Words};
 use allpass::State;
 use integer::Value;
 use octets::signed;
-use voice::{Filter, Head, Kind, Pluck, Tuning, Waiting};
+use voice::{Filter, Head, Kind, Tuning, Waiting};
 
 // The number whose two's complement is w.
 pub fn value_of(w: u32) -> Value
@@ -22,34 +21,24 @@ pub fn value_of(w: u32) -> Value
     signed(w as u64, 2_147_483_648)
 }
 
-fn state_of(a: u32, b: u32, c: u32) -> State
-    ensures { result ≡ three_of a b c }
+fn state_of(v: Three) -> State
+    ensures { result ≡ three_of v.a v.b v.c }
 {
-    let x = value_of(a);
-    let y = value_of(b);
-    let z = value_of(c);
     State {
-        v1: x.n,
-        v2: y.n,
-        v3: z.n,
+        v1: value_of(v.a).n,
+        v2: value_of(v.b).n,
+        v3: value_of(v.c).n,
     }
 }
 
-fn filter_of(order: u32, length: u32, delay: u32, a: u32, b: u32, c: u32) -> Filter
-    requires { FilterIn (tuning order length delay) (three_of a b c) }
-    ensures { Makes (tuning order length delay) (three_of a b c) result }
+fn filter_of(tuning: Tuning, v: Three) -> Filter
+    requires { FilterIn (tuning_of tuning) (three_of v.a v.b v.c) }
+    ensures { Makes (tuning_of tuning) (three_of v.a v.b v.c) result }
 {
-    let k = thiran::formula::set(order, delay);
-    let t = Tuning {
-        order: order,
-        length: length,
-        delay: delay,
-    };
-    let s = state_of(a, b, c);
     Filter {
-        tuning: t,
-        coefficients: k,
-        state: s,
+        tuning,
+        coefficients: thiran::formula::set(tuning.order, tuning.delay),
+        state: state_of(v),
     }
 }
 
@@ -58,7 +47,7 @@ fn prepared(advance: u32, c: Change) -> Waiting
     requires { Comes advance c }
     ensures { (waiting_of result ≡ Waits c.kind (change_of c)) × Waiting-valid advance result }
 {
-    let e = filter_of(c.order, c.length, c.delay, c.v1, c.v2, c.v3);
+    let e = filter_of(c.tuning, c.state);
     if c.kind == 1 {
         return Waiting::Prepared(Kind::Announced, e, c.taken);
     }
@@ -75,34 +64,17 @@ fn waiting_of(advance: u32, c: Change) -> Waiting
     prepared(advance, c)
 }
 
-// The rest of a pluck.
-fn pluck_of(amplitude: u32, left: u32, noise: u32) -> Pluck
-    requires { PluckIn (record { amplitude = amplitude; left = left; noise = noise }) }
-    ensures { (pluck_of result ≡ record { amplitude = amplitude; left = left; noise = noise }) × Plucked result }
-{
-    Pluck {
-        amplitude: amplitude,
-        left: left,
-        noise: noise,
-    }
-}
-
 pub fn head_of(w: Words) -> Head
     requires { HeadIn w }
     ensures { Builds w result }
 {
-    let filter = filter_of(w.order, w.length, w.delay, w.v1, w.v2, w.v3);
-    let c = w.change;
-    let waiting = waiting_of(w.advance, c);
-    let last = value_of(w.last);
-    let pluck = pluck_of(w.amplitude, w.left, w.noise);
     Head {
-        filter: filter,
+        filter: filter_of(w.tuning, w.state),
         loss: w.loss,
         advance: w.advance,
-        last: last,
-        waiting: waiting,
-        pluck: pluck,
+        last: value_of(w.last),
+        waiting: waiting_of(w.advance, w.change),
+        pluck: w.pluck,
         at: 0,
     }
 }

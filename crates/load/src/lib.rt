@@ -3,15 +3,17 @@
 #![tactic(auto)]
 
 ghost use Rattle.std.specs.Prelude.{◌≡◌, ℕ, ◌+◌, ◌*◌, ◌^◌, ◌≤◌, ◌<◌, pos, length, get_or, set};
+ghost use Rattle.refusal.specs.Numbers.{code_of};
 ghost use Rattle.form.specs.Loads.{loads};
 ghost use Rattle.form.specs.Parts.{value};
 ghost use Rattle.load.specs.Words.{read as Read};
-ghost use Rattle.load.specs.Loaded.{Loads, Shows};
+ghost use Rattle.load.specs.Loaded.{loaded, shown, Loads, Shows};
 
 use build::head_of;
 use limits::{head_in, line_in};
 use octets::{four, signed};
-use voice::Answer;
+use refusal::Refusal;
+use voice::Head;
 use words::{map_of, places, words_of};
 
 mod build;
@@ -21,29 +23,34 @@ mod words;
 // What the panel shows: length, delay and loss.
 #[derive(Clone, Copy)]
 pub struct Shown {
-    pub refusal: u32,
     pub length: u32,
     pub delay: u32,
     pub loss: u32,
 }
 
-// What bytes are refused by: 22, 23, else 0.
-fn tested(s: &[u8]) -> u32
-    ensures { result ≡ (loads s.now).refusal }
+// What a load returns: not a Result of a head, since a refused one has a voice too.
+#[derive(Clone, Copy)]
+pub struct Loaded {
+    pub answer: Result<(), Refusal>,
+    pub head: Head,
+}
+
+// What bytes are refused by: 22, 23.
+fn tested(s: &[u8]) -> Result<(), Refusal>
+    ensures { code_of result ≡ (loads s.now).refusal }
 {
     let m = map_of(s);
     let p = places(m);
-    let end = p.end;
-    if s.len() != end {
-        return refusal::STORED_LENGTH;
+    if s.len() != p.end {
+        return Err(Refusal::StoredLength);
     }
     if !head_in(words_of(s, m)) {
-        return refusal::STORED_PART;
+        return Err(Refusal::StoredPart);
     }
     if !line_in(s, p.line, m / 128 % 2) {
-        return refusal::STORED_PART;
+        return Err(Refusal::StoredPart);
     }
-    0
+    Ok(())
 }
 
 // Puts the number whose two's complement is w at place i.
@@ -52,8 +59,7 @@ fn write(line: &mut [i32], i: usize, w: u64)
     ensures { line.new ≡ set line.old i (value w) }
 {
     let v = signed(w, 2_147_483_648);
-    let x = v.n as i32;
-    line[i] = x;
+    line[i] = v.n as i32;
 }
 
 // Fills the line with the numbers that start at a place.
@@ -62,10 +68,8 @@ fn fill(s: &[u8], at: usize, line: &mut [i32])
     ensures { (length line.new ≡ 2112) × ((k : ℕ) → k < 2112 → get_or line.new k (pos 0)
         ≡ value (Read s.now (at + 4 * k) 1 0)) }
 {
-    let mut i = 0;
-    while i < 2_112 {
+    for i in 0..2_112 {
         write(line, i, four(s, at + 4 * i));
-        i = i + 1;
     }
 }
 
@@ -83,48 +87,36 @@ fn lay(s: &[u8], at: usize, there: usize, line: &mut [i32; 2112])
 }
 
 // Loads a voice into the lent line and the head that it returns; by a refusal Open's refusal voice, line and all.
-pub fn load(s: &[u8], line: &mut [i32; 2112]) -> Answer
-    ensures { Loads s.now result line.new }
+pub fn load(s: &[u8], line: &mut [i32; 2112]) -> Loaded
+    ensures { Loads s.now (loaded result) line.new }
 {
-    let code = tested(s);
-    if code != 0 {
-        let o = open::open(0, 0, 0, 0, 0);
-        let l = o.voice.line;
-        *line = l;
-        let h = o.voice.head;
-        return Answer {
-            refusal: code,
-            head: h,
+    let answer = tested(s);
+    if answer.is_err() {
+        let v = open::refusal_voice();
+        let silence = v.line;
+        *line = silence;
+        return Loaded {
+            answer,
+            head: v.head,
         };
     }
     let m = map_of(s);
-    let p = places(m);
-    lay(s, p.line, m / 128 % 2, line);
-    let h = head_of(words_of(s, m));
-    Answer {
-        refusal: 0,
-        head: h,
+    lay(s, places(m).line, m / 128 % 2, line);
+    Loaded {
+        answer,
+        head: head_of(words_of(s, m)),
     }
 }
 
-// What the panel shows of a stored voice; by a refusal that of Open's refusal voice.
-pub fn panel(s: &[u8]) -> Shown
-    ensures { Shows s.now result }
+// What the panel shows of a stored voice.
+pub fn panel(s: &[u8]) -> Result<Shown, Refusal>
+    ensures { Shows s.now (shown result) }
 {
-    let code = tested(s);
-    if code != 0 {
-        return Shown {
-            refusal: code,
-            length: 1,
-            delay: 4_096,
-            loss: 0,
-        };
-    }
+    tested(s)?;
     let w = words_of(s, map_of(s));
-    Shown {
-        refusal: 0,
-        length: w.length,
-        delay: w.delay,
+    Ok(Shown {
+        length: w.tuning.length,
+        delay: w.tuning.delay,
         loss: w.loss,
-    }
+    })
 }

@@ -1,15 +1,15 @@
 // The limits of a stored voice's numbers, tested on their 32 bits: no test needs signed arithmetic.
 ghost use Rattle.std.specs.Prelude.{◌≡◌, ◌+◌, ◌*◌, ◌^◌, ◌≤◌, ◌<◌, nat_abs, length};
-ghost use Rattle.rule.specs.Voice.{tuning};
+ghost use Rattle.voice.specs.Struct.{tuning_of, pluck_of};
 ghost use Rattle.allpass.specs.Bounds.{Within};
 ghost use Rattle.form.specs.Parts.{value};
 ghost use Rattle.form.specs.Refusals.{FilterIn, ChangeIn, AllZero};
 ghost use Rattle.load.specs.Says.{Says, Past};
 ghost use Rattle.load.specs.Words.{three_of, change_of, TakenIn, PluckIn, HeadIn, LineIn};
 
-use crate::words::{Change, Words};
+use crate::words::{Change, Three, Words};
 use octets::four;
-use voice::untuned;
+use voice::{Pluck, Tuning, untuned};
 
 // The magnitude of a number in two's complement.
 fn magnitude(w: u32) -> u32
@@ -38,54 +38,45 @@ fn past(order: u32, y: u32, z: u32) -> bool
 }
 
 // A tuning, and a state for it.
-fn filter_in(order: u32, length: u32, delay: u32, a: u32, b: u32, c: u32) -> bool
-    ensures { Says result (FilterIn (tuning order length delay) (three_of a b c)) }
+fn filter_in(tuning: Tuning, v: Three) -> bool
+    ensures { Says result (FilterIn (tuning_of tuning) (three_of v.a v.b v.c)) }
 {
-    if untuned(order, length, delay) != 0 {
+    if untuned(tuning).is_err() {
         return false;
     }
-    let x = magnitude(a);
+    let x = magnitude(v.a);
     if 16_777_214 < x {
         return false;
     }
-    let y = magnitude(b);
+    let y = magnitude(v.b);
     if 16_777_214 < y {
         return false;
     }
-    let z = magnitude(c);
+    let z = magnitude(v.c);
     if 16_777_214 < z {
         return false;
     }
-    past(order, y, z)
-}
-
-// A number of 32 bits in 64.
-fn wide(n: u32) -> u64
-    ensures { (result ≡ n) × (result < 2 ^ 32) }
-{
-    n as u64
+    past(tuning.order, y, z)
 }
 
 // Every number of a change is 0.
 fn all_zero(c: Change) -> bool
     ensures { Says result (AllZero (change_of c)) }
 {
-    let tuning = wide(c.order) + wide(c.length) + wide(c.delay);
-    let state = wide(c.v1) + wide(c.v2) + wide(c.v3);
-    wide(c.kind) + tuning + wide(c.taken) + state == 0
+    let t = c.tuning;
+    let v = c.state;
+    [c.kind, t.order, t.length, t.delay, c.taken, v.a, v.b, v.c] == [0; 8]
 }
 
 // How many samples a change of a kind has taken.
 fn taken_in(advance: u32, kind: u32, taken: u32) -> bool
     ensures { Says result (TakenIn advance kind taken) }
 {
-    if kind == 1 {
-        return taken < advance;
+    match kind {
+        1 => taken < advance,
+        2 => taken <= advance,
+        _ => false,
     }
-    if kind == 2 {
-        return taken <= advance;
-    }
-    false
 }
 
 // What waits, if anything does.
@@ -98,33 +89,24 @@ fn change_in(advance: u32, c: Change) -> bool
     if !taken_in(advance, c.kind, c.taken) {
         return false;
     }
-    filter_in(c.order, c.length, c.delay, c.v1, c.v2, c.v3)
+    filter_in(c.tuning, c.state)
 }
 
 // The rest of a pluck.
-fn pluck_in(amplitude: u32, left: u32, noise: u32) -> bool
-    ensures { Says result (PluckIn (record { amplitude = amplitude; left = left; noise = noise })) }
+fn pluck_in(p: Pluck) -> bool
+    ensures { Says result (PluckIn (pluck_of p)) }
 {
-    if 255 < amplitude {
+    if 255 < p.amplitude || 2_048 < p.left {
         return false;
     }
-    if 2_048 < left {
-        return false;
-    }
-    if left != 0 {
-        return true;
-    }
-    if amplitude != 0 {
-        return false;
-    }
-    noise == 0
+    p.left != 0 || p.amplitude == 0 && p.noise == 0
 }
 
 // All numbers but the line's.
 pub fn head_in(w: Words) -> bool
     ensures { Says result (HeadIn w) }
 {
-    if !filter_in(w.order, w.length, w.delay, w.v1, w.v2, w.v3) {
+    if !filter_in(w.tuning, w.state) {
         return false;
     }
     if 65_535 < w.loss {
@@ -136,11 +118,10 @@ pub fn head_in(w: Words) -> bool
     if 8_388_607 < magnitude(w.last) {
         return false;
     }
-    if !pluck_in(w.amplitude, w.left, w.noise) {
+    if !pluck_in(w.pluck) {
         return false;
     }
-    let c = w.change;
-    change_in(w.advance, c)
+    change_in(w.advance, w.change)
 }
 
 // Every number of the line that starts at a place is a sample. The loop goes to the end, whatever it meets: so it is
@@ -150,12 +131,10 @@ fn all_samples(s: &[u8], at: usize) -> bool
     ensures { Says result (LineIn s.now at) }
 {
     let mut good = true;
-    let mut i = 0;
-    while i < 2_112 {
+    for i in 0..2_112 {
         if 8_388_607 < magnitude(four(s, at + 4 * i) as u32) {
             good = false;
         }
-        i = i + 1;
     }
     good
 }

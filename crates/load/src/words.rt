@@ -5,6 +5,7 @@ ghost use Rattle.form.specs.Parts.{held_in};
 ghost use Rattle.load.specs.Words.{read as Read, Placed, ChangeRead, numbers_of};
 
 use octets::part;
+use voice::{Pluck, Tuning};
 
 // Where each part starts behind the tuning's, and where the form ends.
 #[derive(Clone, Copy)]
@@ -19,41 +20,32 @@ pub struct Offsets {
     pub end: usize,
 }
 
-// A waiting change.
+// Three numbers, each in two's complement where it is signed.
+#[derive(Clone, Copy)]
+pub struct Three {
+    pub a: u32,
+    pub b: u32,
+    pub c: u32,
+}
+
+// A waiting change. Its kind is a word, and no enum, since any bytes have such numbers.
 #[derive(Clone, Copy)]
 pub struct Change {
     pub kind: u32,
-    pub order: u32,
-    pub length: u32,
-    pub delay: u32,
+    pub tuning: Tuning,
     pub taken: u32,
-    pub v1: u32,
-    pub v2: u32,
-    pub v3: u32,
+    pub state: Three,
 }
 
 #[derive(Clone, Copy)]
 pub struct Words {
-    pub order: u32,
-    pub length: u32,
-    pub delay: u32,
+    pub tuning: Tuning,
     pub loss: u32,
     pub advance: u32,
     pub last: u32,
-    pub v1: u32,
-    pub v2: u32,
-    pub v3: u32,
+    pub state: Three,
     pub change: Change,
-    pub amplitude: u32,
-    pub left: u32,
-    pub noise: u32,
-}
-
-#[derive(Clone, Copy)]
-struct Three {
-    a: u32,
-    b: u32,
-    c: u32,
+    pub pluck: Pluck,
 }
 
 // The bit map: the first byte, 0 where there is none.
@@ -96,34 +88,44 @@ fn read(s: &[u8], at: usize, there: usize, other: u32) -> u32
     other
 }
 
-fn read_three(s: &[u8], at: usize, there: usize, x: u32, y: u32, z: u32) -> Three
+// Three numbers from a place on, where there is 1, else others.
+fn read_three(s: &[u8], at: usize, there: usize, others: Three) -> Three
     requires { at ≤ 100 }
-    ensures { (result.a ≡ Read s.now at there x) × (result.b ≡ Read s.now (at + 4) there y)
-        × (result.c ≡ Read s.now (at + 8) there z) }
+    ensures { (result.a ≡ Read s.now at there others.a) × (result.b ≡ Read s.now (at + 4) there others.b)
+        × (result.c ≡ Read s.now (at + 8) there others.c) }
 {
-    let a = read(s, at, there, x);
-    let b = read(s, at + 4, there, y);
-    let c = read(s, at + 8, there, z);
-    Three { a: a, b: b, c: c }
+    Three {
+        a: read(s, at, there, others.a),
+        b: read(s, at + 4, there, others.b),
+        c: read(s, at + 8, there, others.c),
+    }
 }
+
+// A tuning, likewise.
+fn read_tuning(s: &[u8], at: usize, there: usize, others: Three) -> Tuning
+    requires { at ≤ 100 }
+    ensures { (result.order ≡ Read s.now at there others.a) × (result.length ≡ Read s.now (at + 4) there others.b)
+        × (result.delay ≡ Read s.now (at + 8) there others.c) }
+{
+    let t = read_three(s, at, there, others);
+    Tuning {
+        order: t.a,
+        length: t.b,
+        delay: t.c,
+    }
+}
+
+const ZEROS: Three = Three { a: 0, b: 0, c: 0 };
 
 fn change_of(s: &[u8], at: usize, there: usize) -> Change
     requires { at ≤ 80 }
     ensures { ChangeRead s.now at there result }
 {
-    let kind = read(s, at, there, 0);
-    let t = read_three(s, at + 4, there, 0, 0, 0);
-    let taken = read(s, at + 16, there, 0);
-    let v = read_three(s, at + 20, there, 0, 0, 0);
     Change {
-        kind: kind,
-        order: t.a,
-        length: t.b,
-        delay: t.c,
-        taken: taken,
-        v1: v.a,
-        v2: v.b,
-        v3: v.c,
+        kind: read(s, at, there, 0),
+        tuning: read_tuning(s, at + 4, there, ZEROS),
+        taken: read(s, at + 16, there, 0),
+        state: read_three(s, at + 20, there, ZEROS),
     }
 }
 
@@ -133,26 +135,29 @@ pub fn words_of(s: &[u8], m: usize) -> Words
     ensures { numbers_of result (held_in s.now).line ≡ held_in s.now }
 {
     let p = places(m);
-    let t = read_three(s, 1, m % 2, 1, 1, 4_096);
+    let refused = Three {
+        a: 1,
+        b: 1,
+        c: 4_096,
+    };
+    let tuning = read_tuning(s, 1, m % 2, refused);
     let loss = read(s, p.loss, m / 2 % 2, 0);
     let advance = read(s, p.advance, m / 4 % 2, 0);
     let last = read(s, p.last, m / 8 % 2, 0);
-    let v = read_three(s, p.state, m / 16 % 2, 0, 0, 0);
+    let state = read_three(s, p.state, m / 16 % 2, ZEROS);
     let change = change_of(s, p.change, m / 32 % 2);
-    let k = read_three(s, p.pluck, m / 64 % 2, 0, 0, 0);
+    let k = read_three(s, p.pluck, m / 64 % 2, ZEROS);
     Words {
-        order: t.a,
-        length: t.b,
-        delay: t.c,
-        loss: loss,
-        advance: advance,
-        last: last,
-        v1: v.a,
-        v2: v.b,
-        v3: v.c,
-        change: change,
-        amplitude: k.a,
-        left: k.b,
-        noise: k.c,
+        tuning,
+        loss,
+        advance,
+        last,
+        state,
+        change,
+        pluck: Pluck {
+            amplitude: k.a,
+            left: k.b,
+            noise: k.c,
+        },
     }
 }

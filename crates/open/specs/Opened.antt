@@ -21,6 +21,10 @@ opening_of o = record {
   Na = o.advance;
 }
 
+-- an opening that is refused
+abbrev pub nothing : Rule.Opening
+nothing = record { N = 0; L = 0; d = 0; G = 0; Na = 0 }
+
 -- what Open returns by number, and the voice
 pub record Opened : Type 0 where
   pub refusal : ℕ

@@ -7,10 +7,10 @@ ghost use Rattle.refusal.specs.Limits.{refusal as First};
 ghost use Rattle.refusal.specs.Numbers.{code_of};
 ghost use Rattle.refusal.specs.Returned.{AllKept};
 ghost use Rattle.rule.specs.Calls.{open_limits, resting as resting_voice};
-ghost use Rattle.rule.specs.State.{silence};
+ghost use Rattle.rule.specs.State.{silence, fresh as fresh_state};
 ghost use Rattle.voice.specs.Struct.{state_of};
 ghost use Rattle.voice.specs.Valid.{Valid};
-ghost use Rattle.open.specs.Opened.{opening_of, opened, Opens};
+ghost use Rattle.open.specs.Opened.{nothing, opening_of, opened, Opens};
 
 use integer::Value;
 use refusal::{MOST_ADVANCE, MOST_LOSS, Refusal, within};
@@ -84,6 +84,14 @@ fn fresh(o: Opening) -> Voice
         },
         line: [0; 2112],
     }
+}
+
+// Document 01's voice of a refused opening.
+pub fn refusal_voice() -> Voice
+    ensures state { state_of result.head result.line ≡ fresh_state nothing }
+    ensures valid { Valid result.head result.line }
+{
+    fresh(REFUSED)
 }
 
 // Open.

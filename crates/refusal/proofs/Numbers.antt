@@ -4,7 +4,7 @@ use mathlib.Core.Path.{◌≡◌, sym, ◌∙◌}
 use mathlib.Core.Bool.{true, false, true≢false}
 use Prim.Native.Nat.{ℕ, ◌<◌}
 use native.Mathlib.Omega.{arith}
-use Rattle.std.specs.Prelude.{Result, Ok, Err, is_ok}
+use Rattle.std.specs.Prelude.{Result, Ok, Err, is_ok, is_err}
 use Rattle.refusal.specs.declared.Refusal.{Refusal}
 use Rattle.refusal.specs.declared.Refusal.TheVariants.{
   Order,
@@ -87,3 +87,12 @@ ok-code (Err r) e i = absurd (true≢false (sym i))
 pub err-code : {A : Type 0} (x : Result A Refusal) {n : ℕ} → code_of x ≡ n → is_ok x ≡ false → n ≡ 0 → ⊥
 err-code (Ok y) e i z = true≢false i
 err-code (Err r) e i z = refused-above r (e ∙ z)
+
+-- the same by whether it is Err
+pub not-err-code : {A : Type 0} (x : Result A Refusal) {n : ℕ} → code_of x ≡ n → is_err x ≡ false → 0 ≡ n
+not-err-code (Ok y) e i = e
+not-err-code (Err r) e i = absurd (true≢false i)
+
+pub is_err-code : {A : Type 0} (x : Result A Refusal) {n : ℕ} → code_of x ≡ n → is_err x ≡ true → n ≡ 0 → ⊥
+is_err-code (Ok y) e i z = true≢false (sym i)
+is_err-code (Err r) e i z = refused-above r (e ∙ z)

@@ -1,19 +1,15 @@
-use Rattle.load.proofs.Heads.{takes, filter-tuned}
-use Rattle.load.specs.Words.{three_of}
-use Rattle.rule.specs.Voice.{tuning}
+-- `load::build::filter_of` meets its contract: the coefficients of the tuning, and its state.
+-- Assumes nothing.
 use mathlib.Core.Path.{refl}
+use Rattle.voice.specs.Struct.{tuning_of}
+use Rattle.load.specs.Words.{three_of}
+use Rattle.load.proofs.Heads.{takes, filter-tuned}
 use Rattle.load.proofs.build.filter_of.Goals as goal
 
--- src/build.rt:47:9
-pub set-k-requires : goal.set-k-requires
-set-k-requires c =
-    takes (tuning c.args.order c.args.length c.args.delay) (three_of c.args.a c.args.b c.args.c) c.requires
-
--- src/build.rt:43:1
 pub returns : goal.returns
 returns c =
-    let a = c.args in
-    let t = tuning a.order a.length a.delay in
-    let h = filter-tuned (record { tuning = record { order = a.order; length = a.length; delay = a.delay }; coefficients = c.set-k.result; state = three_of a.a a.b a.c })
-    t refl c.set-k.ensures c.requires in
-    rw c.state_of-s.ensures h
+    let t = c.args.tuning in
+    let v = c.args.v in
+    let f = filter-tuned (record { tuning = t; coefficients = c.set.result; state = three_of v.a v.b v.c })
+    (tuning_of t) refl c.set.ensures c.requires in
+    rw c.state_of.ensures f
