@@ -8,7 +8,7 @@ use Rattle.integer.proofs.Rounding.{nearest-is, nearest-only}
 use Rattle.refusal.specs.Limits.{Between, met}
 use Rattle.refusal.specs.Orders as orders
 use Rattle.refusal.proofs.Ranges.{ordered}
-use Rattle.pitch.specs.declared.Pitch.{Pitch}
+use Rattle.pitch.specs.Pitch.{Pitch}
 use Rattle.pitch.specs.Pitch.{split_l, split_d, note_length}
 use Rattle.pitch.specs.Returns.{Long}
 use Rattle.pitch.proofs.Lengths.{long-is, splits, splits-only}

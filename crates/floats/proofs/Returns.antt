@@ -6,8 +6,8 @@ use Rattle.integer.specs.Parts as parts
 use Rattle.integer.specs.Rounding.{M, nearest, clip}
 use Rattle.integer.proofs.View.{Zs, *v, negv, onev}
 use Rattle.integer.proofs.Rounding.{nearest-is, clip_abs}
-use Rattle.floats.specs.declared.sample.Sample.{Sample}
-use Rattle.floats.specs.declared.loss.Loss.{Loss}
+use Rattle.floats.specs.Sample.{Sample}
+use Rattle.floats.specs.Loss.{Loss}
 use Rattle.floats.specs.Worth.{finite, size, unit, above}
 use Rattle.floats.specs.Sample.{enters, refused}
 use Rattle.floats.specs.Loss.{outside, gain, loss}

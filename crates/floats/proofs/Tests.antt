@@ -1,7 +1,10 @@
 -- What the code's tests of a float against a whole number K say.
-use Rattle.std.proofs.Common.{◌≡◌, ℕ, ◌+◌, ◌*◌, ◌^◌, ◌<◌, ◌≤◌, true, false, not, T, pos, neg_ℤ, sym, refl, arith, ltb-false, ltb-true}
+use Rattle.std.proofs.Common.{◌≡◌, ℕ, ◌+◌, ◌*◌, ◌^◌, ◌<◌, ◌≤◌, true, false, cond, not, T, subst, pos, neg_ℤ, sym, refl, arith, ltb-false, ltb-true}
 use mathlib.Core.Bool.{false≢true}
 use lib.Ieee.{Float, nan, inf, fin, up, down, neg, lt, is_nan}
+use Rattle.refusal.specs.declared.Refusal.{Refusal}
+use Rattle.refusal.specs.Numbers.{number_of}
+use Rattle.refusal.proofs.Numbers.{refused-above}
 use Rattle.integer.proofs.View.{Zs, negv}
 use Rattle.floats.specs.Worth.{finite, size, unit, above}
 use Rattle.floats.specs.Steps.{Counted}
@@ -12,6 +15,21 @@ unfolding is_nan
 no_nan nan f = absurd f
 no_nan (inf s) f = tt
 no_nan (fin s m e) f = tt
+
+-- ---- x is finite, or refused by 26
+pub is-finite : (x : Float) → ◌≡◌ {A = ℕ} 0 (cond (finite x) 0 26) → finite x ≡ true
+is-finite nan e = absurd (omega arith)
+is-finite (inf s) e = absurd (omega arith)
+is-finite (fin s m i) e = refl
+
+pub not-finite : (x : Float) (r : Refusal) → number_of r ≡ cond (finite x) 0 26
+    → (finite x ≡ false) × (number_of r ≡ 26)
+not-finite nan r e = (refl, e)
+not-finite (inf s) r e = (refl, e)
+not-finite (fin s m i) r e = absurd (refused-above r e)
+
+pub fin-T : (x : Float) → finite x ≡ true → T (finite x)
+fin-T x e = subst T (sym e) tt
 
 -- ---- x < 0
 pub below : (x : Float) → T (finite x) → lt x (fin false 0 (pos 0)) ≡ true

@@ -4,7 +4,7 @@ use Rattle.std.specs.Prelude.{ℕ, cond, not, [], ◌∷◌, ℤ, pos, ◌*ℤ�
 use Rattle.integer.specs.Rounding.{nearest}
 use Rattle.refusal.specs.Limits.{met, refusal}
 use Rattle.refusal.specs.Orders.{order}
-use Rattle.pitch.specs.declared.Pitch.{Pitch}
+use Rattle.pitch.specs.Pitch.{Pitch}
 use Rattle.pitch.specs.Pitch.{split_l, note_length, answer}
 use Rattle.floats.specs.Worth.{finite, unit, above}
 

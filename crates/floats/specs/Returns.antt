@@ -4,10 +4,10 @@ use Rattle.std.specs.Prelude.{◌≡◌, ℕ, ◌^◌, min, Bool, ◌↔◌, ℤ
 use Rattle.std.specs.Float.{nan, inf}
 use Rattle.integer.specs.Rounding.{Nearest, clip}
 use Rattle.refusal.specs.Limits.{Between}
-use Rattle.pitch.specs.declared.Pitch.{Pitch}
+use Rattle.pitch.specs.Pitch.{Pitch}
 use Rattle.pitch.specs.Returns.{Splits, Long}
-use Rattle.floats.specs.declared.sample.Sample.{Sample}
-use Rattle.floats.specs.declared.loss.Loss.{Loss}
+use Rattle.floats.specs.Sample.{Sample}
+use Rattle.floats.specs.Loss.{Loss}
 use Rattle.floats.specs.Worth.{above, unit}
 use Rattle.floats.specs.Sample.{enters}
 use Rattle.floats.specs.Loss.{loss}

@@ -2,11 +2,12 @@
 // specs/Delay.antt.
 ghost use Rattle.std.specs.Prelude.{◌≡◌, ◌*◌, ◌≤◌, T, pos};
 ghost use Rattle.floats.specs.Worth.{finite, size, unit, above};
+ghost use Rattle.pitch.specs.Pitch.{pitch_of};
 ghost use Rattle.floats.specs.Delay.{period as Period, split as Split};
 
-use crate::rounding::{is_finite, nearest_half, scale};
-use pitch::Pitch;
-use refusal::{NOT_FINITE, NOTE_LENGTH, ORDER, outside};
+use crate::rounding::{finite, nearest_half, scale};
+use pitch::Parts;
+use refusal::{ORDERS, Refusal, within};
 
 // T, in units of 1/4,096, of a delay from 0 to 4,095 samples.
 fn period(x: f32) -> u32
@@ -17,32 +18,15 @@ fn period(x: f32) -> u32
     t.n as u32
 }
 
-fn refused(number: u32) -> Pitch
-    ensures { result ≡ record { refusal = number; length = 0; delay = 0 } }
-{
-    Pitch {
-        refusal: number,
-        length: 0,
-        delay: 0,
-    }
-}
-
 // The length and the delay of a voice of an order. Past 4,095 samples no length is long enough: such a delay
 // is refused before it is scaled.
-pub fn split(order: u32, x: f32) -> Pitch
-    ensures { result ≡ Split order x }
+pub fn split(order: u32, x: f32) -> Result<Parts, Refusal>
+    ensures { pitch_of result ≡ Split order x }
 {
-    if outside(order, 1, refusal::ORDERS) {
-        return refused(ORDER);
-    }
-    if !is_finite(x) {
-        return refused(NOT_FINITE);
-    }
-    if x < 0.0 {
-        return refused(NOTE_LENGTH);
-    }
-    if 4095.0 < x {
-        return refused(NOTE_LENGTH);
+    within(Refusal::Order, order, 1, ORDERS)?;
+    finite(Refusal::NotFinite, x)?;
+    if x < 0.0 || 4095.0 < x {
+        return Err(Refusal::NoteLength);
     }
     pitch::split(order, period(x))
 }

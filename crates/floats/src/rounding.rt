@@ -1,18 +1,27 @@
 // From an f32 to the nearest whole number of its multiple by a power of two. Contracts cite specs/Worth.antt
 // and specs/Steps.antt.
-ghost use Rattle.std.specs.Prelude.{◌≡◌, ◌+◌, ◌-◌, ◌*◌, ◌/◌, ◌^◌, ◌<◌, ◌≤◌, T};
+ghost use Rattle.std.specs.Prelude.{◌≡◌, cond, ◌+◌, ◌-◌, ◌*◌, ◌/◌, ◌^◌, ◌<◌, ◌≤◌, T};
 ghost use Rattle.integer.specs.Rounding.{nearest as Nearest};
+ghost use Rattle.refusal.specs.Numbers.{code_of, number_of};
 ghost use Rattle.floats.specs.Worth.{finite as Finite, size, unit, above};
 ghost use Rattle.floats.specs.Steps.{Scales, Counted};
 
 use integer::Value;
+use refusal::Refusal;
 
 // Neither a NaN nor an infinity: 0 times one of these is a NaN, which differs from itself.
-pub(crate) fn is_finite(x: f32) -> bool
+fn is_finite(x: f32) -> bool
     ensures { result ≡ Finite x }
 {
     let z = x * 0.0;
     z == z
+}
+
+// A test: x is finite, or refused.
+pub(crate) fn finite(refusal: Refusal, x: f32) -> Result<(), Refusal>
+    ensures { code_of result ≡ cond (Finite x) 0 (number_of refusal) }
+{
+    if is_finite(x) { Ok(()) } else { Err(refusal) }
 }
 
 // x times a power of two, exactly.

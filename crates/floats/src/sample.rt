@@ -1,17 +1,10 @@
 // Samples as f32, outward and inward. Contracts cite specs/Sample.antt.
 ghost use Rattle.std.specs.Prelude.{◌≡◌, ◌≤◌, unsigned_abs};
 ghost use Rattle.integer.specs.Rounding.{M};
-ghost use Rattle.floats.specs.Sample.{leaves, enters};
+ghost use Rattle.floats.specs.Sample.{leaves, enters, sample_of};
 
-use crate::rounding::{is_finite, nearest_half, scale};
-use refusal::{FLOAT_RANGE, NOT_FINITE};
-
-// What `enter` returns: refusal is 0 for success, and n is 0 where the float is refused.
-#[derive(Clone, Copy)]
-pub struct Sample {
-    pub refusal: u32,
-    pub n: i64,
-}
+use crate::rounding::{finite, nearest_half, scale};
+use refusal::Refusal;
 
 // n / 2^23, exactly.
 pub fn leave(n: i32) -> f32
@@ -22,27 +15,12 @@ pub fn leave(n: i32) -> f32
 }
 
 // The nearest whole number of 1/2^23, a half upward, clipped.
-pub fn enter(x: f32) -> Sample
-    ensures { result ≡ enters x }
+pub fn enter(x: f32) -> Result<i64, Refusal>
+    ensures { sample_of result ≡ enters x }
 {
-    if !is_finite(x) {
-        return Sample {
-            refusal: NOT_FINITE,
-            n: 0,
-        };
+    finite(Refusal::NotFinite, x)?;
+    if x < -1.0 || 1.0 < x {
+        return Err(Refusal::FloatRange);
     }
-    if x < -1.0 {
-        return Sample {
-            refusal: FLOAT_RANGE,
-            n: 0,
-        };
-    }
-    if 1.0 < x {
-        return Sample {
-            refusal: FLOAT_RANGE,
-            n: 0,
-        };
-    }
-    let s = integer::clip(nearest_half(scale(x, 16777216.0)));
-    Sample { refusal: 0, n: s.n }
+    Ok(integer::clip(nearest_half(scale(x, 16777216.0))).n)
 }

@@ -14,7 +14,7 @@ use Rattle.refusal.specs.Returned.{numbered}
 use Rattle.refusal.proofs.Numbers.{refused-above}
 use Rattle.refusal.proofs.Passed.{stops, passes}
 use Rattle.pitch.specs.Pitch.{answer}
-use Rattle.pitch.specs.Parts.{pitch_of}
+use Rattle.pitch.specs.Pitch.{pitch_of}
 
 pub refused-is : (N : ℕ) (T : ℤ) (n : ℕ) (r : Refusal) → number_of r ≡ n → pitch_of (Err r) ≡ answer N T n
 refused-is N T n r e = rw (← e, ne_eqb (number_of r) 0 (refused-above r))

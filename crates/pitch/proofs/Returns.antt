@@ -21,7 +21,7 @@ use Rattle.refusal.proofs.Ranges.{ordered}
 use Rattle.pitch.specs.Pitch.{octave, o, k, period, split_l, split_d, rate, note, note_length, limits}
 use Rattle.pitch.specs.Pitch.{pitch}
 use Rattle.pitch.specs.Returns.{Period, Sounds, Long, Notes, Returns}
-use Rattle.pitch.specs.declared.Pitch.{Pitch}
+use Rattle.pitch.specs.Pitch.{Pitch}
 use Rattle.pitch.proofs.Theorems.{twelfth, placed, divisor_least, rounded}
 use Rattle.pitch.proofs.Lengths.{long-is, splits, splits-only}
 

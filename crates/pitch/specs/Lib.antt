@@ -1,4 +1,3 @@
 pub mod Pitch
-pub mod Parts
 pub mod Theorems
 pub mod Returns

@@ -1,11 +1,13 @@
 -- From a note to a length and a delay, as document 01 has it under "Notes and effective length".
 -- Definitions alone: specs/Theorems.antt states what holds of them. Assumes nothing.
-use Rattle.std.specs.Prelude.{cond, List, [], ◌∷◌, ℕ, ◌+◌, ◌*◌, ◌%◌, ◌^◌, eqb, ℤ, pos, ◌-ℤ◌, ◌*ℤ◌, get_or}
+use Rattle.std.specs.Prelude.{cond, List, [], ◌∷◌, ℕ, ◌+◌, ◌*◌, ◌%◌, ◌^◌, eqb, ℤ, pos, ◌-ℤ◌, ◌*ℤ◌, get_or, Result, Ok, Err}
 use Rattle.integer.specs.Rounding.{floor, nearest}
 use Rattle.integer.specs.Parts.{up, dn}
+use Rattle.refusal.specs.declared.Refusal.{Refusal}
+use Rattle.refusal.specs.Numbers.{number_of}
 use Rattle.refusal.specs.Limits.{Limit, refusal}
 use Rattle.refusal.specs.Orders.{lowest, order}
-use Rattle.pitch.specs.declared.Pitch.{Pitch}
+use Rattle.pitch.specs.declared.Parts.{Parts}
 
 -- "a table of twelve whole numbers, entry k nearest to 2^24 × 2^(k/12)"
 unfoldable pub octave : List ℕ
@@ -46,6 +48,16 @@ note_length L = record { number = 13; low = 1; value = up L; high = 2048 }
 -- "Note: 1, 11 .., 12 .., 13 .."
 abbrev pub limits : ℕ → ℕ → ℕ → List Limit
 limits N fs m = order N ∷ rate fs ∷ note m ∷ note_length (split_l N (period fs m)) ∷ []
+
+-- what `note` returns: its number, 0 for success, and L and d
+pub record Pitch : Type 0 where
+  pub refusal : ℕ
+  pub length : ℕ
+  pub delay : ℕ
+
+abbrev pub pitch_of : Result Parts Refusal → Pitch
+pitch_of (Ok p) = record { refusal = 0; length = p.length; delay = p.delay }
+pitch_of (Err r) = record { refusal = number_of r; length = 0; delay = 0 }
 
 -- what comes back with a number, where T is the period: L and d where it is 0, else "L and d come back 0"
 abbrev pub answer : ℕ → ℤ → ℕ → Pitch

@@ -6,7 +6,7 @@ use Rattle.integer.specs.Parts.{up, dn}
 use Rattle.refusal.specs.Limits.{Between}
 use Rattle.refusal.specs.Ranges.{InRange}
 use Rattle.pitch.specs.Pitch.{pitch}
-use Rattle.pitch.specs.declared.Pitch.{Pitch}
+use Rattle.pitch.specs.Pitch.{Pitch}
 
 -- "m − 69 = 12·o + k with k from 0 to 11", "with t that entry, (2t − 1)^12 < 2^(300 + k) < (2t + 1)^12",
 -- "T is fs × 2^36/(440·t·2^o), nearest, half upward": 2^o stands below, or above where o is below zero

@@ -6,8 +6,7 @@ ghost use Rattle.std.specs.Prelude.{◌≡◌, [], ◌∷◌, ◌+◌, ◌*◌, 
 ghost use Rattle.integer.specs.Parts.{up};
 ghost use Rattle.refusal.specs.Limits.{refusal};
 ghost use Rattle.refusal.specs.Orders.{orders};
-ghost use Rattle.pitch.specs.Pitch.{octave, k, period, split_l, note_length, answer, pitch};
-ghost use Rattle.pitch.specs.Parts.{pitch_of};
+ghost use Rattle.pitch.specs.Pitch.{octave, k, period, split_l, note_length, answer, pitch, pitch_of};
 
 use integer::{Value, round_half_up};
 use refusal::{LONGEST, ORDERS, Refusal, within};
@@ -23,34 +22,6 @@ const OCTAVE: [u64; 12] = [
 pub struct Parts {
     pub length: u32,
     pub delay: u32,
-}
-
-// What `note` returns: refusal is 0 for success, and no Result, since C gets these numbers.
-#[derive(Clone, Copy)]
-pub struct Pitch {
-    pub refusal: u32,
-    pub length: u32,
-    pub delay: u32,
-}
-
-// Both 0 where they are refused.
-impl From<Result<Parts, Refusal>> for Pitch {
-    ghost from_gives = { λ r p. p ≡ pitch_of r };
-
-    fn from(answer: Result<Parts, Refusal>) -> Pitch {
-        match answer {
-            Ok(parts) => Pitch {
-                refusal: 0,
-                length: parts.length,
-                delay: parts.delay,
-            },
-            Err(refusal) => Pitch {
-                refusal: refusal.number(),
-                length: 0,
-                delay: 0,
-            },
-        }
-    }
 }
 
 // t, the entry at a place.
@@ -101,18 +72,12 @@ pub fn split(order: u32, t: u32) -> Result<Parts, Refusal>
     })
 }
 
-fn tested(order: u32, rate: u32, m: u32) -> Result<Parts, Refusal>
+// The length and the delay by which a voice of an order sounds a note.
+pub fn note(order: u32, rate: u32, m: u32) -> Result<Parts, Refusal>
     ensures { pitch_of result ≡ pitch order rate m }
 {
     within(Refusal::Order, order, 1, ORDERS)?;
     within(Refusal::Rate, rate, 8_000, 192_000)?;
     within(Refusal::Note, m, 0, 127)?;
     split(order, loop_period(rate, m))
-}
-
-// The length and the delay by which a voice of an order sounds a note; both 0 where they are refused.
-pub fn note(order: u32, rate: u32, m: u32) -> Pitch
-    ensures { result ≡ pitch order rate m }
-{
-    tested(order, rate, m).into()
 }

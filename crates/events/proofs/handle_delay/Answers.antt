@@ -8,7 +8,7 @@ use Rattle.rule.specs.Voice.{tuning}
 use Rattle.rule.specs.Calls.{announce}
 use Rattle.packed.specs.Words.{head_of}
 use Rattle.strings.specs.Rows.{strings_of}
-use Rattle.pitch.specs.declared.Pitch.{Pitch}
+use Rattle.pitch.specs.Pitch.{Pitch}
 use Rattle.floats.specs.Delay.{split}
 use Rattle.events.specs.declared.Event.TheVariants.{Delay}
 use Rattle.events.specs.Events.{call_of, float_number}

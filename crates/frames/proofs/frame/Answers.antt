@@ -5,7 +5,7 @@ use mir.Syntax.{w64}
 use mir.Val.{to_z, of_z}
 use mir.Facts.{to_z-of_z}
 use Rattle.strings.specs.Rows.{strings_of}
-use Rattle.floats.specs.declared.sample.Sample.{Sample}
+use Rattle.floats.specs.Sample.{Sample}
 use Rattle.floats.specs.Sample.{enters}
 use Rattle.floats.proofs.Returns.{enters-small}
 use Rattle.host.specs.Frames.{frame_number}

@@ -1,4 +1,4 @@
--- `pitch::tested` meets its contract: by which of the first three tests came out, and past them by `split`.
+-- `pitch::note` meets its contract: by which of the first three tests came out, and past them by `split`.
 -- Assumes nothing.
 use mathlib.Core.Path.{◌≡◌, refl, sym, ap, ◌∙◌}
 use mathlib.Core.List.{[], ◌∷◌}
@@ -12,9 +12,9 @@ use Rattle.refusal.specs.Orders.{order}
 use Rattle.refusal.proofs.Returned.{passed}
 use Rattle.refusal.proofs.Passed.{passes, first-kept}
 use Rattle.pitch.specs.Pitch.{rate, note, note_length, split_l, pitch, period}
-use Rattle.pitch.specs.Parts.{pitch_of}
+use Rattle.pitch.specs.Pitch.{pitch_of}
 use Rattle.pitch.proofs.Refused.{refused-is, stopped}
-use Rattle.pitch.proofs.tested.Goals as goal
+use Rattle.pitch.proofs.note.Goals as goal
 
 module _ (N fs m : ℕ) where
   abbrev T : ℤ
