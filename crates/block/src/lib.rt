@@ -30,7 +30,12 @@ fn rendered(line: &mut [i32; 2112], head: Head, input: &[i32], output: &mut [i32
 }
 
 // A block of samples: an output for each input.
-pub fn block(line: &mut [i32; 2112], head: Head, input: &[i32], output: &mut [i32]) -> Result<Head, Refusal>
+pub fn block(
+    line: &mut [i32; 2112],
+    head: Head,
+    input: &[i32],
+    output: &mut [i32],
+) -> Result<Head, Refusal>
     requires { Valid head line.old }
     ensures on { On head line.old (Block input.now (length output.old)) (answered head result)
         line.new }

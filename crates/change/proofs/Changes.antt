@@ -16,7 +16,9 @@ use Rattle.allpass.specs.Bounds.{Within}
 use Rattle.line.specs.Ring.{ring}
 use Rattle.rule.specs.Voice as Rule
 use Rattle.rule.specs.Voice.{Voice, tuning, A, commits, tuned, settled}
-use Rattle.rule.specs.Calls.{Call, prepare, instant, number, window, start, done, count}
+use Rattle.refusal.specs.Limits.{refusal}
+use Rattle.refusal.proofs.Returned.{passed}
+use Rattle.rule.specs.Calls.{Call, change_limits, prepare, instant, number, window, start, done, count}
 use Rattle.rule.specs.State.{back}
 use Rattle.voice.specs.declared.Tuning.{Tuning}
 use Rattle.voice.specs.declared.Filter.{Filter}
@@ -28,6 +30,8 @@ use Rattle.voice.specs.Valid.{Preparing, Fit}
 use Rattle.step.specs.Sample.{Ran}
 use Rattle.step.proofs.Settles.{not_yet}
 use Rattle.voice.specs.Called.{Rests, Called, On}
+use Rattle.change.specs.Refused.{RefusedBy}
+use Rattle.voice.proofs.Tunes.{change_tunes}
 use Rattle.voice.proofs.Called.{voice_by, fit_as, called, called_on}
 
 -- ---- in the rule's terms
@@ -54,6 +58,14 @@ module _ (v : Voice) (r : ℕ → ℤ) (to : Rule.Tuning) where
   count-accepted e z i = i ∙ rw (eq-eqb (number v (instant to)) 0 (sym e ∙ z))
 
 -- ---- in the structs of the code
+-- what the number of a change says
+pub refused-by : (h : Head) (t : Rule.Tuning) {r : ℕ} → r ≡ refusal (change_limits (voice_of h) t)
+    → RefusedBy h t.N t.L t.d r
+refused-by h t e = record {
+  number = e;
+  within = λ z. change_tunes (voice_of h) t (passed (change_limits (voice_of h) t) tt (sym e ∙ z));
+}
+
 module _ {h : Head} {N L d : ℕ} {e : Filter} (k : Fit h) (r : Rests N L d e) where
   abbrev to : Rule.Tuning
   to = tuning N L d

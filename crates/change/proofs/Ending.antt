@@ -1,10 +1,11 @@
 -- What an accepted commit and an accepted withdrawal make of a voice.
 -- Assumes nothing.
-use mathlib.Core.Path.{◌≡◌, refl, sym, subst}
-use mathlib.Core.Bool.{Bool, true, false, cond}
+use mathlib.Core.Path.{◌≡◌, refl, subst}
 use Prim.Native.Nat.{ℕ}
-use borrow.Author.Tests.{eqb-true, eqb-false}
-use lib.Dec.{eqb}
+use Rattle.std.specs.Prelude.{Result, Ok, Err}
+use Rattle.refusal.specs.declared.Refusal.{Refusal}
+use Rattle.refusal.specs.Numbers.{code_of}
+use Rattle.refusal.proofs.Numbers.{refused-above}
 use Rattle.rule.specs.Calls.{commit, withdraw, number, done}
 use Rattle.voice.specs.declared.Waiting.{Waiting}
 use Rattle.voice.specs.declared.Waiting.TheVariants.{Idle, Prepared}
@@ -31,16 +32,10 @@ module _ {h : Head} (k : Fit h) where
           (fit_as k p.tuned k.loss tt k.pluck) (λ q. rw e)
 
   -- refused or not
-  pub commits-or-not : (n : ℕ) → n ≡ number (voice_of h) commit → Called h commit (committing_of h n)
-  commits-or-not n e = go (eqb n 0) refl
-    where
-      go : (b : Bool) → eqb n 0 ≡ b
-          → Called h commit (record { refusal = n; head = cond b (committed_of h h.waiting) h })
-      go true z =
-          let i = eqb-true n 0 z in
-          subst (λ (m : ℕ). Called h commit (record { refusal = m; head = committed_of h h.waiting }))
-          (sym i) (commits e i)
-      go false z = called-refused h commit k e (eqb-false n 0 z)
+  pub commits-or-not : {A : Type 0} (x : Result A Refusal) → code_of x ≡ number (voice_of h) commit
+      → Called h commit (committing_of h x)
+  commits-or-not (Ok x) e = commits e refl
+  commits-or-not (Err r) e = called-refused h commit k e (refused-above r)
 
   pub withdraws : {n : ℕ} → n ≡ number (voice_of h) withdraw → n ≡ 0
       → Called h withdraw (record { refusal = 0; head = with_of h h.filter Idle })

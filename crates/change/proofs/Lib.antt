@@ -1,4 +1,3 @@
 pub mod Changes
-pub mod Chosen
 pub mod Ending
 pub mod Windows

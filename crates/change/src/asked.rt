@@ -99,5 +99,8 @@ pub fn withdraw(head: Head) -> Result<Head, Refusal>
     ensures { Called head Withdraw (answered head result) }
 {
     unasked(head.waiting)?;
-    Ok(Head { waiting: Waiting::Idle, ..head })
+    Ok(Head {
+        waiting: Waiting::Idle,
+        ..head
+    })
 }

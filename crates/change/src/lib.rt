@@ -99,19 +99,14 @@ fn prepared(line: &[i32; 2112], f: Filter, at: usize, advance: u32) -> Run
     ensures count_value { result.count
         ≡ length (window (back (ring at line.now)) f.tuning.length advance) }
 {
-    let mut p = f;
-    let mut left = advance;
+    let mut filter = f;
     let mut count = 0;
-    while 0 < left {
+    for left in (1..=advance).rev() {
         let x = line::read(line, at, (f.tuning.length + left) as usize);
-        p = moved(p, x);
-        left = left - 1;
+        filter = moved(filter, x);
         count = count + 1;
     }
-    Run {
-        filter: p,
-        count: count,
-    }
+    Run { filter, count }
 }
 
 // Changes at once, from an eliminator that is run first over as many samples as the advance.
@@ -124,9 +119,8 @@ pub fn instant(line: &[i32; 2112], head: Head, to: Tuning) -> Result<Changed, Re
     refused(head, to)?;
     let e = resting(to);
     let run = prepared(line, e, head.at, head.advance);
-    let p = run.filter;
     Ok(Changed {
-        head: with(head, p, Waiting::Idle),
+        head: with(head, run.filter, Waiting::Idle),
         count: run.count,
     })
 }

@@ -1,7 +1,7 @@
--- `change::prepared` meets its contract. The loop's invariant: what is left of the window takes p
--- to where the whole of it takes f, and as many were counted as are not left. The measure is what is left.
+-- `change::prepared` meets its contract: a step of the loop, and its end.
+-- Assumes nothing.
 use mathlib.Core.Path.{◌≡◌, refl, ap, ◌∙◌}
-use Prim.Native.Nat.{◌+◌, ◌-◌, ◌≤◌}
+use Prim.Native.Nat.{◌+◌, ◌-◌}
 use native.Mathlib.Omega.{arith}
 use lib.IntN.{ℤ}
 use Rattle.allpass.specs.Allpass.{next}
@@ -18,42 +18,21 @@ use Rattle.change.proofs.prepared.Goals as goal
 pub loop-left-init : goal.loop-left-init
 loop-left-init c = (c.requires.0, refl, omega arith, refl)
 
-module _ (c : goal.After-struct_known-1) where
-  -- how far back is read
-  far : (1 ≤ c.args.f.tuning.length + c.loop-left.left)
-      × (c.args.f.tuning.length + c.loop-left.left ≤ 2112)
-  far = let t = c.requires.0 in omega (arith, t.short, t.long)
-
-pub overflow_add-f : goal.overflow_add-f
-overflow_add-f c = omega (arith, far c)
-
-pub overflow_cast-f : goal.overflow_cast-f
-overflow_cast-f c = omega (arith, far c)
-
-pub read-x-requires : goal.read-x-requires
-read-x-requires c = (c.requires.1, (far c).0, (far c).1)
-
-pub moved-p-requires : goal.moved-p-requires
-moved-p-requires c =
+pub moved-filter-requires : goal.moved-filter-requires
+moved-filter-requires c =
     let k = c.args.f.tuning.length + c.loop-left.left in
     (c.loop-left.invariant.0, read-within (k - 1) c.requires.3 c.read-x.ensures)
 
-pub overflow_sub-left : goal.overflow_sub-left
-overflow_sub-left c = omega arith
-
 pub overflow_add-count : goal.overflow_add-count
 overflow_add-count c = omega arith
-
-pub loop-left-smaller : goal.loop-left-smaller
-loop-left-smaller c = omega arith
 
 pub loop-left-preserved : goal.loop-left-preserved
 loop-left-preserved c =
     let l = c.loop-left in
     let t = c.args.f.tuning in
-    let v = filter_of l.p in
-    let u = filter_of c.moved-p.result in
-    let m = c.moved-p.ensures in
+    let v = filter_of l.filter in
+    let u = filter_of c.moved-filter.result in
+    let m = c.moved-filter.ensures in
     let q = back (ring c.args.at c.args.line.now) in
     let e : u ≡ next (A (tuning_of t)) v (q (t.length + l.left)) =
     m.state

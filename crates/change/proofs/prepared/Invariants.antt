@@ -1,5 +1,5 @@
--- `change::prepared` meets its contract. The loop's invariant: what is left of the window takes p
--- to where the whole of it takes f, and as many were counted as are not left. The measure is what is left.
+-- `change::prepared` meets its contract. The loop's invariant: what is left of the window takes the filter
+-- to where the whole of it takes f, and as many were counted as are not left.
 use mathlib.Core.Path.{◌≡◌}
 use Prim.Native.Nat.{◌+◌}
 use Rattle.allpass.specs.Allpass.{run}
@@ -15,8 +15,5 @@ abbrev pub invariant-loop-left : goal.invariant-loop-left
 invariant-loop-left l =
     let A' = A (tuning_of l.f.tuning) in
     let over = window (back (ring l.at l.line)) l.f.tuning.length in
-    Tuned l.p × (l.p.tuning ≡ l.f.tuning) × (l.count + l.left ≡ l.advance)
-    × (run A' (filter_of l.p) (over l.left) ≡ run A' (filter_of l.f) (over l.advance))
-
-abbrev pub decreases-loop-left : goal.decreases-loop-left
-decreases-loop-left l = l.left
+    Tuned l.filter × (l.filter.tuning ≡ l.f.tuning) × (l.count + l.left ≡ l.advance)
+    × (run A' (filter_of l.filter) (over l.left) ≡ run A' (filter_of l.f) (over l.advance))
