@@ -84,11 +84,11 @@ pub fn within(refusal: Refusal, value: u32, low: u32, high: u32) -> Result<(), R
 }
 
 // The number by which a call is refused, 0 for success: what C gets.
-pub fn code(answer: Result<(), Refusal>) -> u32
+pub fn code<T: Copy>(answer: Result<T, Refusal>) -> u32
     ensures { result ≡ code_of answer }
 {
     match answer {
-        Ok(()) => 0,
+        Ok(_) => 0,
         Err(refusal) => refusal.number(),
     }
 }
