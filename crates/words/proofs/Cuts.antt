@@ -1,13 +1,16 @@
 -- Pieces of a text by the place where a byte first stands, and `Bares`: a carriage return at the end goes.
--- Assumes nothing.
 use mathlib.Core.Path.{◌≡◌, refl, sym, ap, ◌∙◌}
 use mathlib.Core.List.{List, [], ◌∷◌, ◌++◌}
 use Prim.Native.Nat.{ℕ, zero, suc, ◌+◌, ◌-◌, ◌≤◌, ◌<◌}
 use native.Mathlib.Omega.{arith}
 use native.Mathlib.Numerals.{add-one}
 use borrow.Author.Tests.{eq-eqb, ne_eqb}
-use lib.ListN.{length, get_or, take, drop, length-append, length-drop}
-use lib.Seq.{take_all, take_at, get_or-append-add}
+use lib.ListN.{length, get_or, take, drop, length-append}
+use lib.Seq.{take_at, get_or-append-add}
+use Rattle.std.proofs.lemmas.List.{take_rest}
+use Rattle.std.proofs.Common.{Bor, Option, Some, None}
+use Rattle.std.specs.Option.{unwrap_or}
+use Rattle.std.specs.Slice.{IsGetRangeResult}
 use Rattle.words.specs.Words.{Before}
 use Rattle.words.specs.Pieces.{cut, past, piece, bare, Bares, BareLines}
 
@@ -40,16 +43,13 @@ drop_all zero (x ∷ s) h = absurd (omega arith)
 drop_all (suc k) [] h = refl
 drop_all (suc k) (x ∷ s) h = drop_all k s (omega arith)
 
--- the part of s from k on
-pub part-all : (k : ℕ) (s : List ℕ) → take (length s - k) (drop k s) ≡ drop k s
-part-all k s = take_all (length s - k) (drop k s) (omega (arith, length-drop k s))
-
--- nothing stands after the end
-pub past_end : (b : ℕ) (s : List ℕ) (r : ℕ) → Before b s r → r ≡ length s → drop r s ≡ past b s
-past_end b s r h e = drop_all r s (omega arith) ∙ sym (drop_all (suc r) s (omega arith)) ∙ past-at b s r h
-
-pub past_one : (b : ℕ) (s : List ℕ) (r : ℕ) → Before b s r → drop (r + 1) s ≡ past b s
-past_one b s r h = rw add-one (past-at b s r h)
+-- the part of s behind the first b, and nothing where there is none
+pub part-past : (b : ℕ) (s : List ℕ) (r : ℕ) (o : Option (Bor (List ℕ))) (e : Bor (List ℕ)) → Before b s r
+    → IsGetRangeResult s (r + 1) (length s) o → e.now ≡ [] → (unwrap_or o e).now ≡ past b s
+part-past b s r (Some x) e h part nothing = part.0.2 ∙ rw (take_rest s (r + 1), add-one) (past-at b s r h)
+part-past b s r None e h part nothing =
+    let end : length s < r + 1 = grind (arith, part.0) in
+    nothing ∙ sym (drop_all (suc r) s (omega arith)) ∙ past-at b s r h
 
 -- ---- pieces
 pub piece-first : (b n : ℕ) (s : List ℕ) → n ≤ 0 → cut b s ≡ piece b n s
@@ -64,11 +64,9 @@ piece-less b (suc n) s h = let e : suc n - 1 ≡ n = omega arith in rw e
 
 -- ---- a line's end
 pub bare-goes : (s : List ℕ) → get_or s (length s - 1) 0 ≡ 13 → bare s ≡ take (length s - 1) s
-unfolding bare
 bare-goes s h = rw (eq-eqb _ 13 h)
 
 pub bare-stays : (s : List ℕ) → (get_or s (length s - 1) 0 ≡ 13 → ⊥) → bare s ≡ s
-unfolding bare
 bare-stays s h = rw (ne_eqb _ 13 h)
 
 pub bare-empty : (s : List ℕ) → length s ≡ 0 → bare s ≡ s

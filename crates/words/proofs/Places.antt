@@ -1,31 +1,37 @@
--- A fact of every place from one on, for one place more; a word is not empty where it starts before the end.
--- Assumes nothing.
-use mathlib.Core.Path.{◌≡◌, refl, sym, ap, ◌∙◌}
-use mathlib.Core.Bool.{Bool, true, false}
-use mathlib.Core.List.{List}
-use Prim.Native.Nat.{ℕ, ◌+◌, ◌≤◌, ◌<◌}
-use native.Mathlib.Omega.{arith}
-use borrow.Author.Count.{below_more}
-use borrow.Author.Tests.{ltb-true, ltb-false}
-use lib.Dec.{ltb}
-use lib.ListN.{length, get_or}
-use Rattle.words.specs.Words.{blank, Starts, Stops}
+-- Where the first word of a text stands: behind its blanks, and it is not empty where it starts before the end.
+-- A fact of every place from one on, for one place more.
+use Rattle.std.proofs.Common.{◌≡◌, ℕ, ◌+◌, ◌-◌, ◌≤◌, ◌<◌, true, List, length, get_or, drop, sym, ◌∙◌, ap, arith, length-drop, below_more}
+use Rattle.std.proofs.lemmas.Bool.{false≢true}
+use Rattle.std.proofs.lemmas.List.{get_or-drop}
+use Rattle.words.specs.Words.{blank, Starts, Stops, FirstWord}
 
 pub from_more : (P : ℕ → Type 0) (start i : ℕ) → ((k : ℕ) → start ≤ k → k < i → P k) → P i
     → (k : ℕ) → start ≤ k → k < i + 1 → P k
 from_more P start i all here k h l =
     below_more (λ (j : ℕ). start ≤ j → P j) i (λ j m s. all j s m) (λ s. here) k l h
 
-pub some : (s : List ℕ) (a e : ℕ) → Starts s a → Stops s a e → a < length s → a < e
-some s a e p q h = go (ltb a e) refl
-  where
-    go : (t : Bool) → ltb a e ≡ t → a < e
-    go true k = ltb-true a e k
-    go false k =
-        let same : e ≡ a = omega (arith, ltb-false a e k, q.order) in
-        let here : true ≡ false
-        = sym (q.here (omega (arith, same, h)))
-        ∙ ap (λ (j : ℕ). blank (get_or s j 0)) same
-        ∙ p.here h in
-        let z : ◌≡◌ {A = ℕ} 0 1 = cc in
-        absurd (omega arith)
+module _ {s : List ℕ} {a n : ℕ} (before : Starts s a) (letters : Stops (drop a s) 0 n) where
+  -- the letters, by their places in the whole text
+  blank-at : (k : ℕ) → blank (get_or (drop a s) k 0) ≡ blank (get_or s (a + k) 0)
+  blank-at k = ap blank (get_or-drop a s k 0)
+
+  stops : Stops s a (a + n)
+  stops = record {
+    order = omega arith;
+    within = omega (arith, letters.within, before.within, length-drop a s);
+    letters = λ k h l.
+        let e : a + (k - a) ≡ k = omega arith in
+        ap (λ (j : ℕ). blank (get_or s j 0)) (sym e)
+        ∙ sym (blank-at (k - a))
+        ∙ letters.letters (k - a) (omega arith) (omega arith);
+    here = λ h. sym (blank-at n) ∙ letters.here (omega (arith, h, length-drop a s));
+  }
+
+  empty : a < length s → n ≡ 0 → ⊥
+  empty h e =
+      let at : blank (get_or s (a + n) 0) ≡ true = stops.here (omega arith) in
+      let start : a + n ≡ a = omega arith in
+      false≢true (sym (before.here h) ∙ ap (λ (j : ℕ). blank (get_or s j 0)) (sym start) ∙ at)
+
+  pub first_word : FirstWord s a (a + n)
+  first_word = record { starts = before; stops = stops; some = λ h. omega (arith, empty h) }

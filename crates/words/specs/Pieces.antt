@@ -27,7 +27,7 @@ piece b zero s = cut b s
 piece b (suc k) s = piece b k (past b s)
 
 -- a line without the carriage return that ends it, where one does
-unfoldable pub bare : List ℕ → List ℕ
+abbrev pub bare : List ℕ → List ℕ
 bare s = cond (eqb (get_or s (length s - 1) 0) 13) (take (length s - 1) s) s
 
 -- whatever stands before it, a carriage return at the end goes, and no other byte does

@@ -1,16 +1,9 @@
 -- `words::pieces::after` meets its contract: what stands after the first such byte.
--- Assumes nothing.
-use mathlib.Core.Path.{◌∙◌}
-use Prim.Native.Nat.{◌+◌}
-use Rattle.words.proofs.Cuts.{part-all, past_one, past_end}
+use Rattle.std.proofs.Common.{refl}
+use Rattle.words.proofs.Cuts.{part-past}
 use Rattle.words.proofs.pieces.after.Goals as goal
-
-pub returns-then-e-s : goal.returns-then-e-s
-returns-then-e-s c =
-    let n = c.before-e in
-    part-all n.result _ ∙ past_end _ _ n.result n.ensures c.if-e-s.true
 
 pub returns : goal.returns
 returns c =
-    let n = c.before-e in
-    part-all (n.result + 1) _ ∙ past_one _ _ n.result n.ensures
+    let n = c.before-2 in
+    rw c.unwrap_or.ensures (part-past c.args.b c.args.s.now n.result c.get.result _ n.ensures c.get.ensures.lookup refl)
