@@ -7,6 +7,13 @@ from read import EXPORTS, Place, flat
 
 TACTICS = {"search", "grind", "omega", "refl", "simp", "cc", "tt"}
 SAME, LONG = 3, 20
+# A definition at the left edge: its name, its type, and its clauses up to a line that starts with neither.
+DEFINITION = re.compile(
+    r"(?m)^(?:(?:abbrev|unfoldable) )?(?:pub )?([^\s(){}:.;]+) : ((?:.|\n(?=[ \t]))*)\n"
+    r"(?:unfolding [^\n]*\n)?((?:\1(?=[ =\n])(?:.|\n(?=[ \t}\])]))*\n?)*)"
+)
+CLAIM = re.compile(r"[≡≤<↔×⊥]|→ [A-Z]\w+ \S")
+VALUE = re.compile(r"(?:ℤ|ℕ|Bool|Type 0|List \S+)$")
 
 
 def tactic(body):
@@ -42,9 +49,10 @@ def read(checkout):
         crate = path.relative_to(checkout.root / "crates").parts[0]
         inner = "::".join(path.relative_to(checkout.root / "crates" / crate / "proofs").parts[:-1])
         text = code(path.read_text())
-        for found in re.finditer(r"(?m)^(?:(?:abbrev|unfoldable) )?(?:pub )?([^\s(){}:.;]+) : ((?:.|\n(?=[ \t]))*)\n(?:unfolding [^\n]*\n)?((?:\1(?=[ =\n])(?:.|\n(?=[ \t}\])]))*\n?)*)", text):
+        for found in DEFINITION.finditer(text):
             name, type, clauses = found.groups()
-            bodies = [flat(clause.partition("=")[2]) for clause in re.split(rf"(?m)^(?={re.escape(name)}[ =\n])", clauses) if clause.strip()]
+            clauses = re.split(rf"(?m)^(?={re.escape(name)}[ =\n])", clauses)
+            bodies = [flat(clause.partition("=")[2]) for clause in clauses if clause.strip()]
             line = text.count("\n", 0, found.start()) + 1
             full = "::".join(part for part in (crate, inner) if part)
             yield Answer(crate, file, line, f"{full} {name}", " | ".join(bodies)), flat(type)
@@ -74,12 +82,13 @@ def answers(checkout):
     for body, held in alike.items():
         if len(held) >= SAME and len(body) >= LONG and len({answer.body for answer in held}) > 1:
             for answer in held:
-                yield place(answer, "c. answer that stands three times or more but for names", f"{body[:90]} (in {len(held)} answers)")
+                said = f"{body[:90]} (in {len(held)} answers)"
+                yield place(answer, "c. answer that stands three times or more but for names", said)
     lemmas = collections.defaultdict(list)
     for answer, type in stated:
         lemmas[type].append(answer)
     for type, held in lemmas.items():
-        if len({answer.file for answer in held}) >= 2 and re.search(r"[≡≤<↔×⊥]|→ [A-Z]\w+ \S", type) and not re.search(r"(?:ℤ|ℕ|Bool|Type 0|List \S+)$", type):
+        if len({answer.file for answer in held}) >= 2 and CLAIM.search(type) and not VALUE.search(type):
             for answer in held:
                 yield place(answer, "d. lemma stated in two files or more", f"{type[:90]} (in {len(held)} files)")
     yield from files_alike(checkout, "*/proofs/**/*.antt", "e. files alike")

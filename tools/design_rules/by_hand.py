@@ -39,7 +39,8 @@ def copied(function):
             continue
         placed = sum(bool(re.fullmatch(r"\w+\[\w+\]|word\(.*\)", value)) for value in values)
         paths = [re.fullmatch(r"(?:\w+\()?(\w+)((?:\.\w+)+)(?: as \w+|\))?", value) for value in values]
-        same = collections.Counter(path.group(1) for path, key in zip(paths, keys) if path and path.group(2).endswith("." + key))
+        named = [path for path, key in zip(paths, keys) if path and path.group(2).endswith("." + key)]
+        same = collections.Counter(path.group(1) for path in named)
         if placed * 2 >= len(fields):
             yield function.place("c. struct made of an array's places", f"{name} of {placed} places", at)
         elif same and same.most_common(1)[0][1] * 2 >= len(fields):
@@ -62,7 +63,8 @@ def converted(checkout, function):
     numbers = [given for name, given in arms if name in enums and re.fullmatch(r"\d+|\w+\(", given)]
     if function.result in INTEGERS and len(numbers) == len(arms) >= 2 and any(given.isdigit() for given in numbers):
         yield function.place("a. number of an enum by match", f"-> {function.result}")
-    if function.result in enums and re.search(r"== \d", function.body) and any(kind in INTEGERS for _, kind in function.parameters):
+    numbered = any(kind in INTEGERS for _, kind in function.parameters)
+    if function.result in enums and re.search(r"== \d", function.body) and numbered:
         yield function.place("a. enum of a number by tests", f"-> {function.result}")
     if re.search(rf"[-+%] {WIDE}|{WIDE} [-+]|(?:signed|bits)\([^;]*{WIDE}|(?:plus|minus)\([^;]*n: {WIDE}", function.body):
         yield function.place("d. sign or wrapping by arithmetic", f"-> {function.result or '()'}")
@@ -72,14 +74,19 @@ def converted(checkout, function):
         yield function.place("d. digits of a number by arithmetic", f"-> {function.result or '()'}")
 
 
+CHOSEN = re.compile(
+    r"\bif ([\w.]+) (?:<|<=|>|>=) ([\w.]+) \{\s*(?:return )?([\w.]+);?\s*\}(?:\s*else \{)?\s*([\w.]+)\s*\}?"
+)
+
+
 def compared(function):
     names = [name for name, _ in function.parameters]
-    pairs = [hit for hit in re.finditer(r"\b(\w+) (==|!=) (\w+)\b", function.body) if hit.group(1) in names and hit.group(3) in names]
+    pairs = [pair for pair in re.findall(r"\b(\w+) (?:==|!=) (\w+)\b", function.body) if set(pair) <= set(names)]
     elements = re.search(r"\b\w+\[[^\]]+\] (?:==|!=) \w+\[[^\]]+\]", function.body)
     if function.result == "bool" and (elements or len(pairs) >= 2):
         yield function.place("e. comparison written out", f"{'elements' if elements else len(pairs)}")
-    chosen = re.search(r"\bif ([\w.]+) (<|<=|>|>=) ([\w.]+) \{\s*(?:return )?([\w.]+);?\s*\}(?:\s*else \{)?\s*([\w.]+)\s*\}?", function.body)
-    if chosen and {chosen.group(1), chosen.group(3)} == {chosen.group(4), chosen.group(5)}:
+    chosen = CHOSEN.search(function.body)
+    if chosen and set(chosen.group(1, 2)) == set(chosen.group(3, 4)):
         yield function.place("f. least or greatest of two by a test", f"-> {function.result}", chosen.start())
     bounds = re.findall(r"\bif [\w.]+ [<>] (-?\d[\d_]*) \{\s*return (?:Value \{ n: )?\1(?: \})?;", function.body)
     bounds += re.findall(r"\bif (\d[\d_]*) < [\w.]+ \{\s*return \1;", function.body)
@@ -105,13 +112,15 @@ def moved(function):
 
 
 def printed(function):
-    names = dict(function.parameters)
-    given = {"out", "buffer", "at", "told", "place", "digits"}
-    values = [(name, kind) for name, kind in function.parameters if name not in given]
-    to = re.match(r"Out|Stdout|Stderr", names.get("out", "")) or "buffer" in names
-    if to and values and re.match(r"usize|\(\)|$|u32", function.result):
-        if all(kind in INTEGERS | {"Value", "State", "Pluck", "Waiting", "Filter", "Kind", "Head", "Played"} for _, kind in values):
-            yield function.place("h. value printed by a function of its own", ", ".join(f"{n}: {k}" for n, k in values))
+    """A function that prints values: it has an output, a buffer or a printer, and numbers or structs beside it."""
+    output = [n for n, k in function.parameters if re.fullmatch(r"Out|Stdout|Stderr|.*\bPrinter\b.*", k) or n == "buffer"]
+    output += ["self"] * ("::Printer::" in function.name)
+    values = [(n, k) for n, k in function.parameters
+              if n not in output and n not in ("at", "told", "place", "digits", "buffer", "out") and not n.endswith("self")]
+    if output and values and re.fullmatch(r"usize|\(\)||u32", function.result):
+        if all(kind in INTEGERS or re.fullmatch(r"(?!Request$)[A-Z]\w*", kind) for _, kind in values):
+            said = ", ".join(f"{name}: {kind}" for name, kind in values)
+            yield function.place("h. value printed by a function of its own", said)
 
 
 def by_hand(checkout):

@@ -41,7 +41,7 @@ def value(constant):
 
 
 def constants(checkout):
-    """Rows of three constants or more that count by one or by doubling, and others that stand for a refusal or a kind."""
+    """Rows of three constants or more that count by one or by doubling; others that are a refusal or a kind."""
     code = {}
     for function in checkout.functions:
         code[function.file] = code.get(function.file, "") + function.body
@@ -53,8 +53,7 @@ def constants(checkout):
     for found in files.values():
         rows, row = [], []
         for constant in found:
-            step = (lambda a, b: b == a + 1 or (a > 0 and b == 2 * a))(value(row[-1]), value(constant)) if row else True
-            if not step:
+            if row and value(constant) not in (value(row[-1]) + 1, 2 * value(row[-1]) or None):
                 rows.append(row)
                 row = []
             row.append(constant)
@@ -62,7 +61,8 @@ def constants(checkout):
         for row in rows:
             if len(row) >= 3:
                 for constant in row:
-                    yield constant.place("d. constant that numbers", f"{constant.type} = {constant.value}, of a row of {len(row)}")
+                    said = f"{constant.type} = {constant.value}, of a row of {len(row)}"
+                    yield constant.place("d. constant that numbers", said)
                 continue
             for constant in row:
                 name = constant.name.rsplit("::", 1)[-1]
@@ -75,7 +75,7 @@ def constants(checkout):
 def last_calls(function):
     """The calls whose answer the function returns: at its end, behind `return`, and in the arms of its last match."""
     body = function.body.strip()
-    out = re.findall(r"\breturn ((?:[a-z_]\w*::)*[a-z_]\w*)\(", body) + re.findall(r"=> ((?:[a-z_]\w*::)*[a-z_]\w*)\(", body)
+    out = re.findall(r"(?:\breturn|=>) ((?:[a-z_]\w*::)*[a-z_]\w*)\(", body)
     tail = re.search(r"(?:^|[;}])\s*((?:[a-z_]\w*::)*[a-z_]\w*)\([^;]*\)\s*$", body)
     if tail:
         out.append(tail.group(1))
@@ -83,12 +83,14 @@ def last_calls(function):
 
 
 def refusing(checkout):
-    """The functions that return a refusal as a number: by their text, then by what they hand on and by who hands it on."""
+    """The functions that return a refusal as a number: by their text, by what they hand on, and by who does."""
     integers = {f.name: f for f in checkout.functions if f.result in ("u8", "u16", "u32", "u64")}
-    numbered = "|".join(place.name.rsplit("::", 1)[-1] for place in constants(checkout) if place.crate == "refusal") or "(?!)"
+    names = [place.name.rsplit("::", 1)[-1] for place in constants(checkout) if place.crate == "refusal"]
+    numbered = "|".join(names) or "(?!)"
     told = re.compile(rf"\brefusal::(?:{numbered})\b|\b(?:refusal::)?code\(|\.number\(\)|\bRefusal::\w+ as u32|"
                       r"\btested\(|\breturn 24\b|\breturn [\w.]+\.refusal;|= [\w.]+\.refusal;|[\w.]+\.refusal\s*$")
-    stated = re.compile(r"\bresult ≡ [Rr]efusal\b|RefusedBy\b|\bTests\b|\(answer_of result|\brefusal = result\b|\bnumber = result\b")
+    stated = re.compile(r"\bresult ≡ [Rr]efusal\b|RefusedBy\b|\bTests\b|\(answer_of result|"
+                        r"\b(?:refusal|number) = result\b")
     found = set()
     for name, function in integers.items():
         body = re.sub(r"\boutside\([^;{]*\)", "", function.body)
@@ -143,11 +145,13 @@ def lent(checkout):
         if function.result in ("u32", "Frame"):
             for name, kind in function.parameters:
                 if re.fullmatch(r"&mut (?:[ui](?:32|size))", kind):
-                    yield function.place("k. result put into what is lent beside a refusal", f"{name}: {kind}", detail=f"({name})")
+                    yield function.place("k. result put into what is lent beside a refusal", f"{name}: {kind}",
+                        detail=f"({name})")
 
 
 def kinds(checkout):
-    compared = re.compile(rf"\b{KIND}\s*(?:==|!=|<=|>=|<|>)\s*(?:{NUMERAL}|{CONSTANT})|(?:\b{NUMERAL}|\b{CONSTANT})\s*(?:==|!=|<=|>=|<|>)\s*{KIND}\b")
+    than, number = r"\s*(?:==|!=|<=|>=|<|>)\s*", rf"(?:\b{NUMERAL}|\b{CONSTANT})"
+    compared = re.compile(rf"\b{KIND}{than}{number}|{number}{than}{KIND}\b")
     for function in checkout.functions:
         for hit in compared.finditer(function.body):
             yield function.place("f. kind compared as a number", flat(hit.group()), hit.start())
@@ -184,7 +188,8 @@ def truths(checkout):
     for function in checkout.functions:
         body = function.body.strip()
         if function.result in INTEGERS:
-            given = re.findall(r"\breturn ([^;]+);|=> ([^{},(]+),|[{;}]\s*((?:(?!=>)[^{};])+?)\s*(?=\}|$)", body) or [(body, "", "")]
+            given = re.findall(r"\breturn ([^;]+);|=> ([^{},(]+),|[{;}]\s*((?:(?!=>)[^{};])+?)\s*(?=\}|$)", body)
+            given = given or [(body, "", "")]
             given = [flat("".join(one)) for one in given]
             given = [one for one in given if one and not one.startswith("return ")]
             if set(given) >= {"0", "1"} and set(given) <= {"0", "1"} or re.fullmatch(r"[^;{}]*/ \w+ % 2", body):

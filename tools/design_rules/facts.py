@@ -1,4 +1,4 @@
-"""Point 5, facts and parameters that always stand together, and point 6, buffers with a length or a place beside them."""
+"""Point 5, facts and parameters that stand together, and point 6, buffers with a length beside them."""
 import collections
 import itertools
 import re
@@ -66,7 +66,8 @@ def facts(checkout):
     for which, kind in (("requires", "a. fact required"), ("ensures", "b. fact ensured")):
         for fact, held in sorted(standing(checkout, which).items()):
             for function, claim in held.values():
-                yield function.place(f"{kind} by three functions or more", f"{fact} (in {len(held)} functions)", detail=f"`{fact}`")
+                yield function.place(f"{kind} by three functions or more", f"{fact} (in {len(held)} functions)",
+                    detail=f"`{fact}`")
     yield from groups(checkout)
 
 
@@ -121,8 +122,8 @@ def beside(checkout):
             held = [(b, k) for b, k in held if tied(function, b, k, place)]
             if held:
                 what = "a. array" if any(ARRAY.match(k) for _, k in held) else "b. slice"
-                yield function.place(f"{what} with a length or a place beside it", f"{', '.join(b for b, _ in held)} beside {place}",
-                    detail=f"({place})")
+                said = f"{', '.join(b for b, _ in held)} beside {place}"
+                yield function.place(f"{what} with a length or a place beside it", said, detail=f"({place})")
     for type in checkout.types:
         if type.kind == "struct" and len(type.fields) > 1:
             found = [name for name, kind in type.fields if kind.startswith("[") or (kind == "usize" and name in PLACES)]
@@ -133,8 +134,8 @@ def beside(checkout):
 def records(function):
     """Arrays whose places are fields: indexed by constants or numerals."""
     named = re.findall(r"\b(\w+)\[([A-Z][A-Z0-9_]+)\]", function.body)
-    counted = re.findall(r"\b(\w+)\[(\d+)\]", function.body) + re.findall(r"\bword\((\w+), (\d+|i(?: \+ \d+)?|at(?: \+ \d+)?)\)", function.body)
-    counted = [one for one in counted if function.name.split("::")[-1] not in ("piece",)]
+    counted = re.findall(r"\b(\w+)\[(\d+)\]", function.body)
+    counted += re.findall(r"\bword\((\w+), (\d+|i(?: \+ \d+)?|at(?: \+ \d+)?)\)", function.body)
     if named:
         yield function.place("d. array whose places are fields", ", ".join(dict.fromkeys(f"{a}[{b}]" for a, b in named)))
     elif len(set(counted)) >= 2:

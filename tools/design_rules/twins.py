@@ -4,12 +4,19 @@ import difflib
 import itertools
 import re
 
+from facts import nameless
 from files import alike
 
-KEYWORDS = set("as break const continue dyn else enum extern false fn for if impl in let loop match mod move mut pub ref return "
-               "self Self static struct trait true type unsafe use where while u8 u16 u32 u64 usize i8 i16 i32 i64 f32 f64 "
-               "bool str".split())
-TOKEN = re.compile(r'b?"(?:\\.|[^"\\])*"|b?\'(?:\\.|[^\\\'])\'|\'\w+|0x[0-9a-fA-F_]+|\d[\d_]*(?:\.\d+)?|[A-Za-z_]\w*|=>|->|==|!=|<=|>=|&&|\|\||\.\.|::|\S')
+KEYWORDS = set(
+    "as break const continue dyn else enum extern false fn for if impl in let loop match mod move mut pub ref "
+    "return self Self static struct trait true type unsafe use where while u8 u16 u32 u64 usize i8 i16 i32 i64 "
+    "f32 f64 bool str".split()
+)
+TOKEN = re.compile(
+    r"""b?"(?:\\.|[^"\\])*"|b?'(?:\\.|[^\\'])'|'\w+|0x[0-9a-fA-F_]+|\d[\d_]*(?:\.\d+)?|[A-Za-z_]\w*"""
+    r"""|=>|->|==|!=|<=|>=|&&|\|\||\.\.|::|\S"""
+)
+NAME, CONSTANT = re.compile(r"[A-Za-z_]\w*$"), re.compile(r"\d|b?['\"]")
 LINES, SHORT, RUN = 4, 20, 24
 
 
@@ -32,17 +39,17 @@ def tokens(text):
 
 def folded(words):
     """Identifiers and constants without their names."""
-    return ["I" if re.match(r"[A-Za-z_]\w*$", w) and w not in KEYWORDS else "N" if re.match(r"\d|b?['\"]", w) else w for w in words]
+    return ["I" if NAME.match(w) and w not in KEYWORDS else "N" if CONSTANT.match(w) else w for w in words]
 
 
 def renamed(words):
     """Identifiers numbered in the order in which they first stand, constants folded: equal where only names differ."""
     seen, out = {}, []
     for w in words:
-        if re.match(r"[A-Za-z_]\w*$", w) and w not in KEYWORDS:
+        if NAME.match(w) and w not in KEYWORDS:
             out.append(seen.setdefault(w, f"I{len(seen)}"))
         else:
-            out.append("N" if re.match(r"\d|b?['\"]", w) else w)
+            out.append("N" if CONSTANT.match(w) else w)
     return out
 
 
@@ -58,6 +65,9 @@ class Shape:
         self.folded = folded(words)
         self.renamed = renamed(words)
         self.unnumbered = ["N" if re.match(r"\d", word) else word for word in self.body]
+        promise = [re.sub(r"\b_\.n\b", "_", nameless(clause, function)) for clause in function.ensures]
+        equal = any("≡" in clause and clause != "_ ≡ _" for clause in promise)
+        self.promise = promise if equal and not function.exported else None
 
 
 def likeness(a, b):
@@ -70,10 +80,11 @@ def likeness(a, b):
         return "c. functions that differ in names or types", "the same but for names, types and constants"
     if min(len(a.body), len(b.body)) >= SHORT:
         named = ratio(a.body, b.body, 0.8)
-        unnamed = ratio(a.folded, b.folded, 0.9) if min(a.lines, b.lines) >= LINES and len(a.folded) >= 2 * SHORT else 0
-        if named or unnamed:
-            said = " and ".join([f"{named:.2f} of their tokens"] * bool(named) + [f"{unnamed:.2f} of them without names"] * bool(unnamed))
-            return "d. functions nearly equal", said
+        long = min(a.lines, b.lines) >= LINES and len(a.folded) >= 2 * SHORT
+        unnamed = ratio(a.folded, b.folded, 0.9) if long else 0
+        said = [f"{named:.2f} of their tokens"] * bool(named) + [f"{unnamed:.2f} of them without names"] * bool(unnamed)
+        if said:
+            return "d. functions nearly equal", " and ".join(said)
     return None, ""
 
 
@@ -93,6 +104,8 @@ def function_twins(checkout):
         kind, how = likeness(a, b)
         if not kind and shared[m, n]:
             kind, how = "e. functions that share a run", f"{shared[m, n] + RUN - 1} tokens"
+        if not kind and a.promise and a.promise == b.promise:
+            kind, how = "j. functions that promise the same", f"promises `{' and '.join(a.promise)}`"
         if kind:
             f, g = a.function, b.function
             place = f.place(kind, f"{how} as {g.name} ({g.file}:{g.line})", detail=g.name)
