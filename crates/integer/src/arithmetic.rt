@@ -1,5 +1,5 @@
 // Operations on numbers that are small enough, one or two in each function.
-ghost use Rattle.std.specs.Prelude.{◌≡◌, ◌≤◌, ◌^◌, pos, nat_abs, ◌+ℤ◌, ◌-ℤ◌, ◌*ℤ◌};
+ghost use Rattle.std.specs.Prelude.{◌≡◌, ◌≤◌, ◌<◌, ◌^◌, pos, nat_abs, ◌+ℤ◌, ◌-ℤ◌, ◌*ℤ◌};
 ghost use Rattle.std.specs.Int.Signed.{lt_z};
 ghost use Rattle.integer.specs.Rounding.{floor};
 
@@ -31,21 +31,15 @@ pub fn scale(g: u32, x: Value) -> Value
     requires { (g ≤ 65535) × (nat_abs x.n ≤ 2 ^ 24) }
     ensures { result.n ≡ pos g *ℤ x.n }
 {
-    times(Value { n: g as i64 }, x)
+    times(Value { n: i64::from(g) }, x)
 }
 
-// u / 65,536 downward.
-pub fn floor_q16(u: Value) -> Value
-    ensures { result.n ≡ floor u.n 65536 }
+// u / 2^BITS downward.
+pub fn floor_shift<const BITS: u32>(u: Value) -> Value
+    requires { BITS < 64 }
+    ensures { result.n ≡ floor u.n (2 ^ BITS) }
 {
-    Value { n: u.n >> 16 }
-}
-
-// u / 131,072 downward.
-pub fn floor_q17(u: Value) -> Value
-    ensures { result.n ≡ floor u.n 131072 }
-{
-    Value { n: u.n >> 17 }
+    Value { n: u.n >> BITS }
 }
 
 pub fn is_below_zero(u: Value) -> bool

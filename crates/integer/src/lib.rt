@@ -18,16 +18,13 @@ pub struct Value {
 pub fn clip(u: Value) -> Value
     ensures { result.n ≡ Clip u.n }
 {
-    if u.n > 8_388_607 {
-        return Value { n: 8_388_607 };
+    Value {
+        n: u.n.clamp(-8_388_607, 8_388_607),
     }
-    if u.n < -8_388_607 {
-        return Value { n: -8_388_607 };
-    }
-    u
 }
 
 // u / m downward: the quotient toward zero, one less where the remainder is below zero.
+// Document 01 names this form, a floor built on truncating division: so it is not div_euclid.
 pub fn floor_div(u: Value, m: u64) -> Value
     requires { (0 < m) × (m < 2 ^ 63) }
     ensures { result.n ≡ floor u.n m }
@@ -49,20 +46,16 @@ pub fn round_half_up(p: Value, q: u64) -> Value
     floor_div(Value { n: 2 * p.n + k }, 2 * q)
 }
 
-// a times b, modulo 2^32.
+// a times b, modulo 2^32. Document 01 names it, a wrapping product as a helper.
 pub fn wrapping_mul_u32(a: u32, b: u32) -> u32
     ensures { result ≡ (a * b) % 2 ^ 32 }
 {
-    ((a as u64) * (b as u64) % 4_294_967_296) as u32
+    a.wrapping_mul(b)
 }
 
 // The magnitude of x.
 pub fn magnitude(x: i32) -> u64
     ensures { result ≡ nat_abs x }
 {
-    let n = x as i64;
-    if n < 0 {
-        return (0 - n) as u64;
-    }
-    n as u64
+    u64::from(x.unsigned_abs())
 }

@@ -1,52 +1,20 @@
--- Bytes taken together, one after the other, and specs/Gathers.antt: the bytes of what they make.
--- Assumes nothing.
+-- specs/Gathers.antt: the bytes of what bytes make.
 use mathlib.Core.Path.{◌≡◌, refl, sym, ap, ◌∙◌}
 use mathlib.Core.List.{List, [], ◌∷◌}
 use Prim.Native.Nat.{ℕ, zero, suc, ◌+◌, ◌*◌, ◌/◌, ◌%◌, ◌^◌, ◌≤◌, ◌<◌}
 use native.Mathlib.Nat.{mul-suc, zero-div, div-div-eq-div-mul}
 use native.Mathlib.Omega.{arith}
 use lib.Pow.{pow-add}
-use lib.ListN.{length, get_or, take, drop, length-drop, drop_of_length-le}
-use lib.Seq.{drop-drop, get_or-drop, get_or-take, take-nil}
+use lib.ListN.{length, get_or, take, drop, drop_of_length-le}
+use lib.Seq.{get_or-drop, get_or-take, take-nil}
 use Rattle.octets.specs.Octets.{number, gathered, sixteen}
 use Rattle.octets.specs.Theorems.{Bytes}
 use Rattle.octets.specs.Gathers.{byte, Gathers}
 use Rattle.octets.proofs.Laws.{wider, taken-bytes, dropped-bytes, taken-under}
 
--- ---- m bytes, and n more after them
-pub number_more : (m n : ℕ) (xs : List ℕ) → m ≤ length xs
-    → number (take (m + n) xs) ≡ number (take m xs) + 2 ^ (8 * m) * number (take n (drop m xs))
-unfolding number
-number_more zero n xs h = let e : 0 + n ≡ n = omega arith in rw e (omega arith)
-number_more (suc m) n [] h = absurd (omega arith)
-number_more (suc m) n (b ∷ bs) h =
-    let e : suc m + n ≡ suc (m + n) = omega arith in
-    rw (e, number_more m n bs (omega arith), wider m) (omega arith)
-
-number-one : (xs : List ℕ) → 1 ≤ length xs → number (take 1 xs) ≡ get_or xs 0 0
-unfolding number
-number-one [] h = absurd (omega arith)
-number-one (b ∷ bs) h = omega arith
-
 pub none-there : (n : ℕ) (xs : List ℕ) (k : ℕ) → length xs ≤ k → 0 ≡ number (take n (drop k xs))
 unfolding number
 none-there n xs k h = rw (drop_of_length-le xs {i = k} h, take-nil n)
-
--- from a place of a longer list
-module _ (s : List ℕ) (at : ℕ) where
-  pub more-at : (m n : ℕ) → at + m ≤ length s
-      → number (take (m + n) (drop at s))
-      ≡ number (take m (drop at s)) + 2 ^ (8 * m) * number (take n (drop (at + m) s))
-  more-at m n h =
-      number_more m n (drop at s) (omega (arith, length-drop at s))
-      ∙ ap (λ (l : List ℕ). number (take m (drop at s)) + 2 ^ (8 * m) * number (take n l)) (drop-drop m at s)
-
-  pub one_at : at + 1 ≤ length s → number (take 1 (drop at s)) ≡ get_or s at 0
-  one_at h =
-      let z : at + 0 ≡ at = omega arith in
-      number-one (drop at s) (omega (arith, length-drop at s))
-      ∙ get_or-drop at s 0 0
-      ∙ ap (λ (k : ℕ). get_or s k 0) z
 
 -- ---- one byte less
 shorter : (n k : ℕ) → n / 2 ^ (8 * suc k) ≡ n / 256 / 2 ^ (8 * k)

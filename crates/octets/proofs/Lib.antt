@@ -4,3 +4,4 @@ pub mod Lists
 pub mod Theorems
 pub mod Gathers
 pub mod GatherRows
+pub mod Words

@@ -17,21 +17,10 @@ pub fn put(out: &mut [u8], at: usize, width: usize, n: u64)
     ensures { out.new ≡ laid out.old at (bytes width n) }
 {
     let mut left = n;
-    let mut to = at;
-    let mut k = width;
-    while 0 < k {
-        out[to] = (left % 256) as u8;
-        left = left / 256;
-        to = to + 1;
-        k = k - 1;
+    for k in 0..width {
+        out[at + k] = (left % 256) as u8;
+        left /= 256;
     }
-}
-
-// A byte as a number of 64 bits.
-fn wide(b: u8) -> u64
-    ensures { (result ≡ b) × (result < 256) }
-{
-    b as u64
 }
 
 // The number that width bytes of the slice make, from the place at on.
@@ -39,11 +28,9 @@ pub fn get(s: &[u8], at: usize, width: usize) -> u64
     requires { (width ≤ 8) × (at + width ≤ length s.now) }
     ensures { (result ≡ number (take width (drop at s.now))) × (result < 2 ^ (8 * width)) }
 {
-    let mut n: u64 = 0;
-    let mut k = width;
-    while 0 < k {
-        k = k - 1;
-        n = n * 256 + wide(s[at + k]);
+    let mut n = 0;
+    for k in (0..width).rev() {
+        n = n * 256 + u64::from(s[at + k]);
     }
     n
 }

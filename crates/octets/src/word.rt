@@ -3,34 +3,21 @@
 ghost use Rattle.std.specs.Prelude.{◌≡◌, ◌+◌, ◌^◌, ◌≤◌, ◌<◌, length, take, drop};
 ghost use Rattle.octets.specs.Octets.{number, gathered};
 
-use crate::{part, wide};
+use crate::part;
 
-// Two, four and eight bytes that are there.
-fn two(s: &[u8], at: usize) -> u64
-    requires { at + 2 ≤ length s.now }
-    ensures { (result ≡ number (take 2 (drop at s.now))) × (result < 2 ^ 16) }
-{
-    let low = wide(s[at]);
-    let high = wide(s[at + 1]);
-    low + 256 * high
-}
-
+// Four and eight bytes that are there.
 pub fn four(s: &[u8], at: usize) -> u64
     requires { at + 4 ≤ length s.now }
     ensures { (result ≡ number (take 4 (drop at s.now))) × (result < 2 ^ 32) }
 {
-    let low = two(s, at);
-    let high = two(s, at + 2);
-    low + 65_536 * high
+    u64::from(u32::from_le_bytes(*s[at..at + 4].first_chunk().unwrap()))
 }
 
 pub fn eight(s: &[u8], at: usize) -> u64
     requires { at + 8 ≤ length s.now }
     ensures { result ≡ gathered s.now at }
 {
-    let low = four(s, at);
-    let high = four(s, at + 4);
-    low + 4_294_967_296 * high
+    u64::from_le_bytes(*s[at..at + 8].first_chunk().unwrap())
 }
 
 // The number that the bytes from start on make, eight at most, the first lowest; missing ones are 0.

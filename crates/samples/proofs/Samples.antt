@@ -1,27 +1,16 @@
--- Laws of the largest magnitude of a list: it bounds each element, goes on from the front, is 0 for zeros.
--- Assumes nothing.
+-- Laws of the largest magnitude of a list: it bounds each element, and is 0 for zeros.
 use mathlib.Core.Path.{◌≡◌, refl, ap₂}
 use mathlib.Core.List.{List, [], ◌∷◌}
-use Prim.Native.Nat.{ℕ, zero, suc, ◌+◌, ◌≤◌, ◌<◌, max}
+use Prim.Native.Nat.{ℕ, zero, suc, ◌≤◌, ◌<◌}
 use native.Mathlib.Omega.{arith}
-use native.Mathlib.Numerals.{add-one}
 use lib.IntN.{ℤ, pos, negsuc, nat_abs}
-use lib.ListN.{length, get_or, drop, replicate}
-use lib.Seq.{drop-cons, drop-length}
+use lib.ListN.{length, get_or, replicate}
 use Rattle.samples.specs.Samples.{loudest}
 
 pub loud : (xs : List ℤ) (i : ℕ) → nat_abs (get_or xs i (pos 0)) ≤ loudest xs
 loud [] i = omega arith
 loud (x ∷ xs) zero = omega arith
 loud (x ∷ xs) (suc i) = omega (arith, loud xs i)
-
--- ---- from the front on
-pub loudest-from : (xs : List ℤ) (i : ℕ) → i < length xs
-    → loudest (drop i xs) ≡ max (nat_abs (get_or xs i (pos 0))) (loudest (drop (i + 1) xs))
-loudest-from xs i h = rw (add-one, drop-cons xs i (pos 0) h) refl
-
-pub loudest-end : (xs : List ℤ) (i : ℕ) → i ≡ length xs → loudest (drop i xs) ≡ 0
-loudest-end xs i e = rw (e, drop-length xs) refl
 
 -- ---- zeros
 zero-only : (x : ℤ) → nat_abs x ≡ 0 → x ≡ pos 0

@@ -2,7 +2,7 @@
 // Contracts read the slice as the list of its numbers.
 #![tactic(auto)]
 
-ghost use Rattle.std.specs.Prelude.{◌≡◌, ◌≤◌, ◌<◌, max, leb, ltb, pos, nat_abs, length, get_or, set};
+ghost use Rattle.std.specs.Prelude.{◌≡◌, ◌≤◌, ◌<◌, leb, ltb, pos, nat_abs, length, get_or, set};
 ghost use Rattle.integer.specs.Rounding.{M};
 ghost use Rattle.samples.specs.Samples.{loudest as Loudest};
 
@@ -13,8 +13,7 @@ pub fn read(s: &[i32], i: usize) -> Value
     requires { i < length s.now }
     ensures { result.n ≡ get_or s.now i (pos 0) }
 {
-    let x = s[i];
-    Value { n: x as i64 }
+    Value { n: i64::from(s[i]) }
 }
 
 // Puts a sample at place i.
@@ -22,8 +21,7 @@ pub fn write(s: &mut [i32], i: usize, y: Value)
     requires { (i < length s.old) × (nat_abs y.n ≤ M) }
     ensures { s.new ≡ set s.old i y.n }
 {
-    let x = y.n as i32;
-    s[i] = x;
+    s[i] = y.n as i32;
 }
 
 // Every number of the slice is a sample.
@@ -39,10 +37,8 @@ pub fn loudest(s: &[i32]) -> u32
     ensures { result ≡ Loudest s.now }
 {
     let mut top = 0;
-    let mut i = 0;
-    while i < s.len() {
-        top = more(top, magnitude(s[i]));
-        i = i + 1;
+    for x in s {
+        top = top.max(x.unsigned_abs());
     }
     top
 }
@@ -52,35 +48,17 @@ pub fn sounds(s: &[i32]) -> bool
     ensures { result ≡ ltb 0 (Loudest s.now) }
 {
     let mut some = false;
-    let mut i = 0;
-    while i < s.len() {
-        if s[i] != 0 {
-            some = true;
-        }
-        i = i + 1;
+    for &x in s {
+        some |= x != 0;
     }
     some
-}
-
-// The magnitude of x, which fits as many bits as x has.
-fn magnitude(x: i32) -> u32
-    ensures { result ≡ nat_abs x }
-{
-    integer::magnitude(x) as u32
-}
-
-// The larger of the two.
-fn more(a: u32, b: u32) -> u32
-    ensures { result ≡ max a b }
-{
-    if a < b { b } else { a }
 }
 
 // The number is a sample.
 pub fn is_sample(x: Value) -> bool
     ensures { result ≡ leb (nat_abs x.n) M }
 {
-    -8_388_607 <= x.n && x.n <= 8_388_607
+    (-8_388_607..=8_388_607).contains(&x.n)
 }
 
 // Makes the output equal to the input, which is as long.
@@ -88,10 +66,5 @@ pub fn copy(input: &[i32], output: &mut [i32])
     requires { length input.now ≡ length output.old }
     ensures { output.new ≡ input.now }
 {
-    let mut i = 0;
-    while i < input.len() {
-        let x = input[i];
-        output[i] = x;
-        i = i + 1;
-    }
+    output.copy_from_slice(input);
 }

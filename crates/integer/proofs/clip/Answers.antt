@@ -1,27 +1,17 @@
--- `integer::clip` meets its contract: by the two tests, each read back from the bits.
--- Assumes nothing.
-use mathlib.Core.Path.{refl}
-use mir.Syntax.{w64}
-use Rattle.integer.proofs.View.{onev, read, Zs}
+-- `integer::clip` meets its contract: the larger of −M and the smaller of u and M.
+use Rattle.std.proofs.Common.{pos, arith, w64, SFits, to_z-of_z}
+use lib.IntN.{negsuc}
+use Rattle.std.specs.Int.{int_min}
+use Rattle.std.proofs.lemmas.Int.{int_max_is, int_min_is}
+use Rattle.integer.proofs.View.{onev, Zs}
 use Rattle.integer.proofs.Rounding.{clipv}
 use Rattle.integer.proofs.clip.Goals as goal
-
-pub returns-then-u-gt8388607 : goal.returns-then-u-gt8388607
-returns-then-u-gt8388607 c =
-    let u = c.args.u.n in
-    let l = rw (read w64 u c.struct_told-1.given.0.1 refl) at c.if-u-gt8388607.true in
-    omega (Zs, clipv u, onev u)
-
-pub returns-then-u-ltminus8388607 : goal.returns-then-u-ltminus8388607
-returns-then-u-ltminus8388607 c =
-    let u = c.args.u.n in
-    let k = rw (read w64 u c.struct_told-2-1.given.0.1 refl) at c.if-u-ltminus8388607.true in
-    omega (Zs, clipv u, onev u)
 
 pub returns : goal.returns
 returns c =
     let u = c.args.u.n in
-    let e = read w64 u c.struct_told-2-1.given.0.1 refl in
-    let l = rw e at c.if-u-gt8388607.false in
-    let k = rw e at c.if-u-ltminus8388607.false in
-    omega (Zs, clipv u, onev u)
+    let f : SFits w64 u = record { sfits = omega arith } in
+    let r : SFits w64 c.clamp.result = record { sfits = omega arith } in
+    let e = rw (to_z-of_z f) at c.clamp.ensures.value in
+    rw (to_z-of_z r, e)
+    (omega (Zs, clipv u, onev u, int_max_is (negsuc 8388606) (int_min u (pos 8388607)), int_min_is u (pos 8388607)))

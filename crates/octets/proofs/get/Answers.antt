@@ -1,21 +1,14 @@
 -- `octets::get` meets its contract: from the last byte to the first, n is what the bytes passed make.
--- Assumes nothing.
-use mathlib.Core.Path.{◌≡◌, ◌∙◌}
-use mathlib.Core.List.{List}
-use Prim.Native.Nat.{ℕ, ◌+◌, ◌-◌, ◌*◌, ◌≤◌, ◌<◌, ◌^◌}
+use Rattle.std.proofs.Common.{◌≡◌, ℕ, ◌+◌, ◌-◌, ◌*◌, ◌≤◌, ◌<◌, ◌^◌, List, length, take, drop, length-drop, ◌∙◌, arith}
 use native.Mathlib.Nat.{lt_of_lt_of_le}
-use native.Mathlib.Omega.{arith}
 use lib.Pow.{pow_mono}
-use lib.ListN.{length, get_or, take, drop, length-take, length-drop}
+use lib.ListN.{get_or, length-take}
 use lib.Seq.{get_or-take, get_or-drop}
 use Rattle.octets.specs.Octets.{number}
 use Rattle.octets.specs.Theorems.{Bytes}
 use Rattle.octets.proofs.Laws.{number-under, taken-under, taken-bytes, dropped-bytes}
 use Rattle.octets.proofs.Laws.{none_left, one_more}
 use Rattle.octets.proofs.get.Goals as goal
-use Rattle.octets.proofs.get.Lts as lts
-use Rattle.octets.proofs.get.Reads as reads
-use Rattle.octets.proofs.get.Tie as tie
 
 abbrev part : List ℕ → ℕ → ℕ → List ℕ
 part s at width = take width (drop at s)
@@ -39,21 +32,25 @@ pub loop-k-init : goal.loop-k-init
 loop-k-init c =
     let a = c.args in
     let l = part_length a.s.now a.at a.width c.requires.1 in
-    (omega arith, none_left (part a.s.now a.at a.width) a.width (omega (arith, l)))
-
--- the number so far, in a turn
-turn_small : (c : lts.In-loop tie.the-claims reads.Pre reads.Post goal.the-invariant-loop-k goal.the-decreases-loop-k)
-    → Bytes c.args.s.now → c.loop-k.n < 2 ^ 56
-turn_small c b =
-    let a = c.args in
-    let l = c.loop-k in
-    small a.s.now a.at a.width l.k l.n b c.requires.0 c.requires.1 c.loop-k-test.true l.invariant.1
+    none_left (part a.s.now a.at a.width) a.width (omega (arith, l))
 
 pub overflow_mul-n : goal.overflow_mul-n
-overflow_mul-n c = omega (arith, turn_small c.before (λ i. omega (arith, c.type_inv.s i)))
+overflow_mul-n c =
+    let a = c.args in
+    let l = c.loop-k in
+    let b : Bytes a.s.now = λ i. omega (arith, c.type_inv.s i) in
+    omega (arith, small a.s.now a.at a.width l.k l.n b c.requires.0 c.requires.1 c.loop-k-test.true l.invariant)
 
 pub overflow_add-n : goal.overflow_add-n
-overflow_add-n c = omega (arith, turn_small c.before.before.before (λ i. omega (arith, c.type_inv.s i)), c.wide.ensures.1)
+overflow_add-n c =
+    let a = c.args in
+    let l = c.loop-k in
+    let b : Bytes a.s.now = λ i. omega (arith, c.type_inv.s i) in
+    omega (
+      arith,
+      small a.s.now a.at a.width l.k l.n b c.requires.0 c.requires.1 c.loop-k-test.true l.invariant,
+      c.type_inv.s (a.at + (l.k - 1)),
+    )
 
 pub loop-k-preserved : goal.loop-k-preserved
 loop-k-preserved c =
@@ -62,14 +59,13 @@ loop-k-preserved c =
     let xs = part a.s.now a.at a.width in
     let b = part_at a.s.now a.at a.width (l.k - 1) (omega arith) in
     let n = part_length a.s.now a.at a.width c.requires.1 in
-    let more = one_more xs l.k l.n (omega arith) (omega (arith, n)) l.invariant.1 in
-    (omega arith, rw (c.wide.ensures.0, ← b) more)
+    let more = one_more xs l.k l.n (omega arith) (omega (arith, n)) l.invariant in
+    rw (c.from.ensures, ← b) more
 
 pub returns : goal.returns
 returns c =
     let a = c.args in
     let z : c.loop-k.k ≡ 0 = omega arith in
-    let e = rw z at c.loop-k.invariant.1 in
+    let e = rw z at c.loop-k.invariant in
     let b = dropped-bytes a.at a.s.now (λ i. omega (arith, c.type_inv.s i)) in
-    let u = taken-under a.width (drop a.at a.s.now) b in
-    (e, rw e u)
+    (e, rw e (taken-under a.width (drop a.at a.s.now) b))

@@ -1,12 +1,7 @@
 -- `octets::part` meets its contract: what is missing adds nothing.
--- Assumes nothing.
-use mathlib.Core.Path.{◌≡◌, sym, ap, ◌∙◌}
-use mathlib.Core.List.{List}
-use Prim.Native.Nat.{ℕ, ◌-◌, ◌*◌, ◌≤◌}
+use Rattle.std.proofs.Common.{◌≡◌, ℕ, ◌-◌, ◌*◌, ◌≤◌, List, length, take, drop, length-drop, sym, ap, ◌∙◌, arith}
 use native.Mathlib.Nat.{lt_of_lt_of_le}
-use native.Mathlib.Omega.{arith}
 use lib.Pow.{pow_pos, pow_mono}
-use lib.ListN.{length, take, drop, length-drop}
 use lib.Seq.{take_all}
 use Rattle.octets.specs.Octets.{number}
 use Rattle.octets.proofs.Gathers.{none-there}
@@ -20,8 +15,7 @@ some s at width h =
 
 pub returns-then-s-at : goal.returns-then-s-at
 returns-then-s-at c =
-    let a = c.args in
-    (none-there a.width a.s.now a.at c.if-s-at.true, pow_pos (8 * a.width))
+    let a = c.args in (none-there a.width a.s.now a.at c.if-s-at.true, pow_pos (8 * a.width))
 
 pub returns-then-left-width : goal.returns-then-left-width
 returns-then-left-width c =

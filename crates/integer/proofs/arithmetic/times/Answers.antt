@@ -1,34 +1,14 @@
 -- `integer::arithmetic::times` meets its contract: the product is at most 2^40.
--- Assumes nothing.
-use mathlib.Core.Path.{◌≡◌, refl}
-use native.Mathlib.Omega.{arith}
+use Rattle.std.proofs.Common.{arith, to_z-of_z, w64}
 use native.Mathlib.Nat.{mul-le-mul}
-use lib.IntN.{ℤ, ◌*ℤ◌}
-use mir.Syntax.{w64}
-use mir.Val.{SFits, to_z, of_z}
-use mir.Facts.{to_z-of_z}
-use Rattle.integer.proofs.View.{abs_fits, read}
+use lib.IntN.{◌*ℤ◌}
+use Rattle.integer.proofs.View.{abs_fits}
 use Rattle.integer.proofs.Ring.{abs-*}
 use Rattle.integer.proofs.arithmetic.times.Goals as goal
 
-module _ (c : goal.After-struct_told-2-1) where
-  abbrev x : ℤ
-  x = c.args.a.n
-
-  abbrev y : ℤ
-  y = c.args.x.n
-
-  x-read : to_z w64 (of_z w64 x) ≡ x
-  x-read = read w64 x c.struct_told-1.given.0.1 refl
-
-  y-read : to_z w64 (of_z w64 y) ≡ y
-  y-read = read w64 y c.struct_told-2-1.given.0.1 refl
-
-  fits : SFits w64 (x *ℤ y)
-  fits = abs_fits w64 (x *ℤ y) (omega (arith, abs-* x y, mul-le-mul c.requires.0 c.requires.1))
-
-pub overflow_mul-result : goal.overflow_mul-result
-overflow_mul-result c = rw (x-read c, y-read c) (fits c)
-
 pub returns : goal.returns
-returns c = rw (x-read c, y-read c) (to_z-of_z (fits c))
+returns c =
+    let a = c.args.a.n in
+    let x = c.args.x.n in
+    let f = abs_fits w64 (a *ℤ x) (omega (arith, abs-* a x, mul-le-mul c.requires.0 c.requires.1)) in
+    grind (arith, to_z-of_z f)

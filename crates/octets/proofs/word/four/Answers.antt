@@ -1,14 +1,15 @@
--- `octets::word::four` meets its contract: two bytes, and two more after them.
--- Assumes nothing.
-use native.Mathlib.Omega.{arith}
-use Rattle.octets.proofs.Gathers.{more-at}
+-- `octets::word::four` meets its contract: the front of the rest of the slice is four bytes.
+use Rattle.std.proofs.Common.{◌≡◌, length, length-drop, drop, take, arith, ◌∙◌, ap}
+use lib.ListN.{length-take}
+use Rattle.octets.specs.Octets.{number}
+use Rattle.octets.proofs.Words.{number_4}
 use Rattle.octets.proofs.word.four.Goals as goal
 
 pub returns : goal.returns
 returns c =
-    let b = c.before.before.before in
-    let l = c.two-low.ensures in
-    let h = c.two-high.ensures in (
-      omega (arith, more-at b.args.s.now b.args.at 2 2 (omega (arith, b.requires)), l.0, h.0),
-      omega (arith, l.1, h.1),
-    )
+    let rest = drop c.args.at c.args.s.now in
+    let bytes = c.unwrap.result.now in
+    let e : bytes ≡ take 4 rest = grind arith in
+    let l : length bytes ≡ 4 =
+    ap length e ∙ omega (arith, length-take 4 rest, length-drop c.args.at c.args.s.now) in
+    (c.from.ensures ∙ c.from_le_bytes.ensures ∙ number_4 bytes l ∙ ap number e, omega arith)

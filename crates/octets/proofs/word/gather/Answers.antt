@@ -1,5 +1,4 @@
 -- `octets::word::gather` meets its contract: no byte is there, some are, or all eight.
--- Assumes nothing.
 use Rattle.octets.proofs.Gathers.{none-there}
 use Rattle.octets.proofs.word.gather.Goals as goal
 
