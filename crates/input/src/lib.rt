@@ -2,7 +2,7 @@
 // Contracts say how much the room then holds, and cannot say which bytes were read.
 #![tactic(auto)]
 
-ghost use Rattle.std.specs.Prelude.{◌≡◌, ◌+◌, ◌≤◌, length, drop, IfOk, MatchResult};
+ghost use Rattle.std.specs.Prelude.{◌≡◌, ◌+◌, ◌≤◌, length, drop, MatchResult};
 ghost use Rattle.std.proofs.Math.Seq.{paste};
 
 use std::io::{Read, Stdin};
@@ -14,23 +14,19 @@ pub struct Failed {
     pub code: i32,
 }
 
-// One read into the part that is left of a room: how many bytes came, or the number of the error.
-fn part(mut from: Stdin, part: &mut [u8]) -> Result<usize, i32>
-    ensures { IfOk result (λ n. n ≤ length part.new) }
-{
-    from.read(part).map_err(|e| e.raw_os_error().unwrap_or(0))
-}
-
 // One read into a room that holds some bytes: how many it holds then, as many as before at the end of the input.
-pub fn more(from: Stdin, room: &mut [u8], held: usize) -> Result<usize, Failed>
+pub fn more(mut from: Stdin, room: &mut [u8], held: usize) -> Result<usize, Failed>
     ensures { MatchResult result (λ n. n ≤ length room.old) (λ e. e.held ≤ length room.old) }
 {
     if held > room.len() {
         return Ok(room.len());
     }
-    match part(from, &mut room[held..]) {
+    match from.read(&mut room[held..]) {
         Ok(n) => Ok(held + n),
-        Err(code) => Err(Failed { held, code }),
+        Err(e) => Err(Failed {
+            held,
+            code: e.raw_os_error().unwrap_or(0),
+        }),
     }
 }
 

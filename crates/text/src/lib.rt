@@ -3,16 +3,9 @@
 #![tactic(auto)]
 
 ghost use Rattle.std.specs.Prelude.{◌≡◌};
-ghost use Rattle.text.specs.Numbers.{digit, number_of, negated, kept, sample_of};
+ghost use Rattle.text.specs.Numbers.{number_of, negated, kept, sample_of};
 
 pub mod byte;
-
-// A byte is a decimal digit.
-fn is_digit(b: u8) -> bool
-    ensures { result ≡ digit b }
-{
-    b >= b'0' && b <= b'9'
-}
 
 // A number in decimal digits, below 2^32.
 pub fn read_number(word: &[u8]) -> Option<u32>
@@ -23,7 +16,7 @@ pub fn read_number(word: &[u8]) -> Option<u32>
     }
     let mut n: u32 = 0;
     for &b in word {
-        if !is_digit(b) {
+        if !b.is_ascii_digit() {
             return None;
         }
         n = n.checked_mul(10)?.checked_add((b - b'0') as u32)?;

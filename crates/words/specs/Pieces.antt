@@ -1,6 +1,6 @@
 -- A text cut where a byte stands, as lines by a line feed, and a line without the carriage return that ends it.
--- Definitions, and what is claimed of the last: proofs/Cuts.antt proves it, and of single lines from that.
-use Rattle.std.specs.Prelude.{◌≡◌, cond, List, [], ◌∷◌, ◌++◌, ℕ, zero, suc, ◌-◌, eqb, length, get_or, take}
+-- What is claimed of the last, proofs/Cuts.antt proves, and of single lines from that.
+use Rattle.std.specs.Prelude.{◌≡◌, if◌then◌else◌, List, [], ◌∷◌, ◌++◌, ℕ, zero, suc, ◌-◌, nat_eq, length, slice_index, take}
 use Prim.Native.String.{String, len, char_at}
 use Prim.Native.Char.{code}
 
@@ -15,11 +15,11 @@ ascii t = codes (len t) 0 t
 -- what stands before the first b, and what after it: all and nothing where there is no b
 unfoldable pub cut : ℕ → List ℕ → List ℕ
 cut b [] = []
-cut b (x ∷ s) = cond (eqb x b) [] (x ∷ cut b s)
+cut b (x ∷ s) = if nat_eq x b then [] else x ∷ cut b s
 
 unfoldable pub past : ℕ → List ℕ → List ℕ
 past b [] = []
-past b (x ∷ s) = cond (eqb x b) s (past b s)
+past b (x ∷ s) = if nat_eq x b then s else past b s
 
 -- the pieces that b separates, from 0 on
 unfoldable pub piece : ℕ → ℕ → List ℕ → List ℕ
@@ -28,7 +28,7 @@ piece b (suc k) s = piece b k (past b s)
 
 -- a line without the carriage return that ends it, where one does
 abbrev pub bare : List ℕ → List ℕ
-bare s = cond (eqb (get_or s (length s - 1) 0) 13) (take (length s - 1) s) s
+bare s = if nat_eq (slice_index s (length s - 1)) 13 then take (length s - 1) s else s
 
 -- whatever stands before it, a carriage return at the end goes, and no other byte does
 pub record Bares : Type 0 where

@@ -1,5 +1,4 @@
 -- What a lent buffer holds after a text was put at a place of it, and the place that is returned.
--- Definitions alone. Assumes nothing.
 use Rattle.std.specs.Prelude.{◌≡◌, List, [], ◌∷◌, ℕ, suc, ◌+◌, ◌≤◌, ◌<◌, ℤ, pos, negsuc, length}
 use Rattle.std.proofs.Math.Seq.{paste}
 use Rattle.io.specs.Digits.{last_digits, IsDigitCount}

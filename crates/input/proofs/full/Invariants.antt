@@ -1,7 +1,6 @@
 -- `input::full` meets its contract: the room holds more bytes after each read.
 use mathlib.Core.Path.{◌≡◌}
 use Prim.Native.Nat.{◌-◌, ◌≤◌}
-use borrow.Author.Rules.{rules}
 use lib.ListN.{length}
 use Rattle.input.proofs.full.Given as goal
 
