@@ -1,14 +1,15 @@
 -- The number of `least`: 1 and 3 as `coefficients` has them, then 32; and what comes back with it.
-use mathlib.Core.Path.{◌≡◌, refl, ◌∙◌}
+use mathlib.Core.Path.{◌≡◌, refl, sym, ◌∙◌}
 use mathlib.Core.Bool.{Bool, true, false, cond}
 use Prim.Native.Nat.{ℕ, ◌≤◌, ◌<◌}
 use native.Mathlib.Omega.{arith}
-use borrow.Author.Tests.{eq-eqb, ne_eqb, lt-ltb, le-ltb}
+use native.Mathlib.Decide.{dec_lt}
+use borrow.Author.Tests.{eq-eqb, ne_eqb, lt-ltb, le-ltb, le-leb, lt-leb}
 use Rattle.refusal.specs.Limits.{met, refusal}
 use Rattle.refusal.specs.Orders.{order, delay}
 use Rattle.thiran.specs.Coefficients.{coefficients, norm}
 use Rattle.thiran.specs.Answers as Thiran
-use Rattle.advance.specs.Least.{first, enough, limits, least_advance}
+use Rattle.advance.specs.Least.{advance_of, found, first, enough, limits, least_advance}
 
 -- the numbers of tests that hold or not
 abbrev last : Bool → ℕ
@@ -55,3 +56,15 @@ module _ (N d wanted : ℕ) where
 
   pub some : refusal (Thiran.limits N d) ≡ 0 → F ≤ 64 → number ≡ 0
   some e h = late e ∙ rw (le-ltb F 0 (omega arith), le-ltb 64 F h)
+
+  -- what comes back with an order and a delay that are taken
+  pub answered : refusal (Thiran.limits N d) ≡ 0 → advance_of (found F) ≡ least_advance N d wanted
+  answered e = go (dec_lt 64 F)
+    where
+      go : Dec (64 < F) → advance_of (found F) ≡ least_advance N d wanted
+      go (yes h) =
+          let i = none e h in
+          rw (lt-leb F 64 h) (sym (turned (λ z. absurd (omega (arith, i, z))) ∙ rw i))
+      go (no h) =
+          let l : F ≤ 64 = omega arith in
+          rw (le-leb F 64 l) (sym (taken (some e l)))

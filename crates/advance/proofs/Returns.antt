@@ -14,7 +14,7 @@ use Rattle.thiran.specs.Coefficients.{coefficients, norm}
 use Rattle.allpass.specs.Bounds.{own_figure}
 use Rattle.advance.specs.Least.{first, enough, limits, least_advance}
 use Rattle.advance.specs.Returns.{Does, Least, Advances, Returns}
-use Rattle.advance.specs.declared.Advance.{Advance}
+use Rattle.advance.specs.Least.{Advance}
 use Rattle.advance.proofs.First.{Stands, first-stands, first-is}
 use Rattle.advance.proofs.Refusals.{taken, turned}
 

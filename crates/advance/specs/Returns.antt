@@ -6,7 +6,7 @@ use Rattle.refusal.specs.Ranges.{InRange}
 use Rattle.thiran.specs.Coefficients.{coefficients, norm}
 use Rattle.allpass.specs.Bounds.{own_figure}
 use Rattle.advance.specs.Least.{least_advance}
-use Rattle.advance.specs.declared.Advance.{Advance}
+use Rattle.advance.specs.Least.{Advance}
 
 -- the advance a is enough by the own figure of N and d: at the change's first sample k is the whole part of a/N
 abbrev pub Does : ℕ → ℕ → ℕ → ℕ → Type 0

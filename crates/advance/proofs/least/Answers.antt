@@ -1,86 +1,66 @@
 -- `advance::least` meets its contract: what is not refused is taken, and its coefficients add up to their norm.
-use mathlib.Core.Path.{◌≡◌, refl, sym, ap, ◌∙◌}
+use mathlib.Core.Path.{◌≡◌, sym, ap, ◌∙◌}
 use Prim.Native.Nat.{ℕ, ◌+◌}
 use native.Mathlib.Omega.{arith}
 use lib.IntN.{nat_abs}
-use mir.Syntax.{w32}
-use Rattle.integer.proofs.View.{read}
+use Rattle.std.proofs.Common.{rules}
+use Rattle.std.specs.Prelude.{Ok, Err}
 use Rattle.refusal.specs.Limits.{refusal}
+use Rattle.refusal.specs.Numbers.{number_of}
 use Rattle.refusal.specs.Orders.{Takes}
+use Rattle.refusal.proofs.Numbers.{refused-above}
 use Rattle.thiran.specs.Coefficients.{coefficients, norm}
 use Rattle.thiran.specs.Answers as Thiran
-use Rattle.thiran.specs.declared.Design.{Design}
+use Rattle.thiran.specs.Answers.{Design, design, designed}
 use Rattle.thiran.proofs.Lists.{length-coefficients}
 use Rattle.thiran.proofs.Refusals.{takes, design-taken}
 use Rattle.thiran.proofs.Returns.{number_is}
 use Rattle.thiran.proofs.Small.{norm-coefficients}
-use Rattle.advance.specs.Least.{first}
+use Rattle.advance.specs.Least.{advance_of, found, first}
 use Rattle.advance.proofs.First.{three}
-use Rattle.advance.proofs.Refusals.{taken, turned, early, none, some}
+use Rattle.advance.proofs.Refusals.{turned, early, answered}
+use Rattle.advance.proofs.least.Goals.{After-norm}
 use Rattle.advance.proofs.least.Goals as goal
-use Rattle.advance.proofs.least.Lts as lts
-use Rattle.advance.proofs.least.Reads as reads
-use Rattle.advance.proofs.least.Tie as tie
 
-pub returns-then-c-ne0 : goal.returns-then-c-ne0
-returns-then-c-ne0 c =
+pub returns-in_err-c : goal.returns-in_err-c
+returns-in_err-c c =
     let s = c.args in
-    let e = ap (λ (r : Design). r.refusal) c.coefficients-c.ensures
-    ∙ sym (number_is s.order s.d) in
-    let f : refusal (Thiran.limits s.order s.d) ≡ 0 → ⊥ = λ z. c.if-c-ne0.true (e ∙ z) in
-    let i = early s.order s.d s.wanted f in
-    sym (turned s.order s.d s.wanted (λ z. f (sym i ∙ z)) ∙ rw (i, e))
+    let r = c.in_err-c.field-0.0 in
+    let i : c.from_residual.result ≡ Err r = search rules in
+    let g : designed (Err r) ≡ design s.order s.d = search rules in
+    let e : number_of r ≡ refusal (Thiran.limits s.order s.d)
+    = ap (λ (a : Design). a.refusal) g ∙ sym (number_is s.order s.d) in
+    let f : refusal (Thiran.limits s.order s.d) ≡ 0 → ⊥ = λ z. refused-above r (e ∙ z) in
+    let n = early s.order s.d s.wanted f in
+    ap advance_of i ∙ sym (turned s.order s.d s.wanted (λ z. f (sym n ∙ z)) ∙ rw (n, e))
 
 -- ---- what is not refused
-module _ (c : (lts.Else1 tie.the-claims reads.Pre reads.Post)) where
+module _ (c : After-norm) where
+  given : designed (Ok c.in_ok-c.c) ≡ design c.args.order c.args.d
+  given = search rules
+
   number : refusal (Thiran.limits c.args.order c.args.d) ≡ 0
-  number =
-      number_is c.args.order c.args.d
-      ∙ sym (ap (λ (r : Design). r.refusal) c.coefficients-c.ensures) ∙ c.if-c-ne0.false
+  number = number_is c.args.order c.args.d ∙ sym (ap (λ (a : Design). a.refusal) given)
 
   fit : Takes c.args.order c.args.d
   fit = takes c.args.order c.args.d number
 
-sum : (c : goal.After-norm) → let s = c.args in
-    c.norm.result ≡ norm (coefficients s.order s.d)
-sum c =
-    let e = c.before.before.before.before in
-    let s = e.args in
-    let r = e.coefficients-c.result in
-    let g = c.struct_told-3-1.given in
-    let told = rw (
-      read w32 r.a1 g.1.0.1 refl,
-      read w32 r.a2 g.1.1.0.1 refl,
-      read w32 r.a3 g.1.1.1.0.1 refl,
-    ) at c.norm.ensures in
-    let i = e.coefficients-c.ensures ∙ design-taken s.order s.d (fit e) in
-    told
-    ∙ ap (λ (r : Design). nat_abs r.a1 + nat_abs r.a2 + nat_abs r.a3) i
-    ∙ three (coefficients s.order s.d) (omega (arith, length-coefficients s.order s.d, (fit e).most))
+  sum : c.norm.result ≡ norm (coefficients c.args.order c.args.d)
+  sum =
+      let s = c.args in
+      c.norm.ensures
+      ∙ ap (λ (r : Design). nat_abs r.a1 + nat_abs r.a2 + nat_abs r.a3) (given ∙ design-taken s.order s.d fit)
+      ∙ three (coefficients s.order s.d) (omega (arith, length-coefficients s.order s.d, fit.most))
 
-pub search-na-requires : goal.search-na-requires
-search-na-requires c =
-    let e = c.before.before.before.before in
-    let s = e.args in
-    let t = fit e in
-    (omega (arith, sum c, norm-coefficients s.order s.d t), t.least, t.most)
-
-found : (c : (lts.After-search tie.the-claims reads.Pre reads.Post)) → let s = c.args in
-    c.search-na.result ≡ first (norm (coefficients s.order s.d)) s.order s.wanted
-found c =
+pub search-requires : goal.search-requires
+search-requires c =
     let s = c.args in
-    c.search-na.ensures ∙ ap (λ (n : ℕ). first n s.order s.wanted) (sum c.before)
-
-pub returns-then-na-gt64 : goal.returns-then-na-gt64
-returns-then-na-gt64 c =
-    let e = c.before.before.before.before.before.before in
-    let s = e.args in
-    let i = none s.order s.d s.wanted (number e) (omega (arith, found c.before)) in
-    sym (turned s.order s.d s.wanted (λ z. absurd (omega (arith, i, z))) ∙ rw i)
+    let t = fit c in
+    (omega (arith, sum c, norm-coefficients s.order s.d t), t.least, t.most)
 
 pub returns : goal.returns
 returns c =
-    let e = c.before.before.before.before.before.before in
-    let s = e.args in
-    let i = some s.order s.d s.wanted (number e) (omega (arith, found c.before)) in
-    rw (found c.before) (sym (taken s.order s.d s.wanted i))
+    let s = c.args in
+    ap advance_of c.search.ensures
+    ∙ ap (λ (n : ℕ). advance_of (found (first n s.order s.wanted))) (sum c.before)
+    ∙ answered s.order s.d s.wanted (number c.before)

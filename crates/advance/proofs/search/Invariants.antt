@@ -1,14 +1,14 @@
 -- `advance::search` meets its contract. The loop's invariant: b is b(k), and no advance below k times the order is
--- enough. The measure is how many rounds are left.
+-- enough.
 use mathlib.Core.Path.{◌≡◌}
-use Prim.Native.Nat.{ℕ, ◌*◌, ◌-◌, ◌/◌, ◌≤◌, ◌<◌}
+use Prim.Native.Nat.{ℕ, ◌*◌, ◌/◌, ◌≤◌, ◌<◌}
 use Rattle.allpass.specs.Bounds.{distance, own_figure}
 use Rattle.advance.proofs.search.Given as goal
 
-abbrev pub invariant-loop-k : goal.invariant-loop-k
-invariant-loop-k l =
-    (l.k ≤ 65) × (l.b ≤ 16777214) × (l.b ≡ distance l.n l.k)
-    × ((a : ℕ) → a < l.k * l.order → l.wanted < own_figure l.n (a / l.order))
+pub record Round (n order wanted b k : ℕ) : Type 0 where
+  pub small : b ≤ 16777214
+  pub bound : b ≡ distance n k
+  pub before : (a : ℕ) → a < k * order → wanted < own_figure n (a / order)
 
-abbrev pub decreases-loop-k : goal.decreases-loop-k
-decreases-loop-k l = 65 - l.k
+abbrev pub invariant-loop-k : goal.invariant-loop-k
+invariant-loop-k l = Round l.n l.order l.wanted l.b l.k
