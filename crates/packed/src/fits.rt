@@ -10,7 +10,7 @@ use crate::read::word;
 use crate::write::word_of;
 use integer::Value;
 use thiran::formula::Coefficients;
-use voice::untuned;
+use voice::{Tuning, untuned};
 
 // The tests so far held, and a value is from low to high.
 fn within(held: bool, low: u32, value: u32, high: u32) -> bool
@@ -80,7 +80,12 @@ fn nine_fit(
       state = record { v1 = signed_of v1; v2 = signed_of v2; v3 = signed_of v3 };
     }) }
 {
-    if untuned(order, length, delay) != 0 {
+    let tuning = Tuning {
+        order,
+        length,
+        delay,
+    };
+    if untuned(tuning).is_err() {
         return false;
     }
     let c = thiran::formula::set(order, delay);

@@ -75,3 +75,8 @@ number_of NoAdvance = 32
 abbrev pub code_of : {A : Type 0} → Result A Refusal → ℕ
 code_of (Ok x) = 0
 code_of (Err r) = number_of r
+
+-- what a call gives beside its number, a count or a length: 0 where it is refused
+abbrev pub beside : Result ℕ Refusal → ℕ
+beside (Ok n) = n
+beside (Err r) = 0

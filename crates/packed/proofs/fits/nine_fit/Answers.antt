@@ -2,27 +2,29 @@
 -- else.
 use mathlib.Core.Path.{sym, ◌∙◌}
 use mathlib.Core.Bool.{true≢false}
+use Rattle.refusal.proofs.Numbers.{is_err-code, not-err-code}
 use Rattle.voice.proofs.Tunes.{Tunes}
 use Rattle.signs.specs.Signs.{signed_of}
 use Rattle.packed.proofs.Tests.{tuning_is, coefficients-small, most-small, filter-is}
 use Rattle.packed.proofs.fits.nine_fit.Goals as goal
 
-pub returns-then-untuned-ne0 : goal.returns-then-untuned-ne0
-returns-then-untuned-ne0 c =
-    let u = c.before in
-    let s = u.args in (
+pub returns-then-is_err : goal.returns-then-is_err
+returns-then-is_err c =
+    let s = c.args in
+    let x = c.untuned in (
       (λ e. absurd (true≢false (sym e))),
-      (λ t. absurd (c.if-untuned-ne0.true
-          (u.untuned.ensures ∙ (tuning_is s.order s.length s.delay).1 (t.takes, t.short, t.long)))),
+      (λ t. absurd (is_err-code x.result x.ensures (sym c.is_err.ensures.value ∙ c.if-is_err.true)
+          ((tuning_is s.order s.length s.delay).1 (t.takes, t.short, t.long)))),
     )
 
 -- the tuning is within its limits
-within : (c : goal.Else-untuned-ne0) → Tunes c.args.order c.args.length
+within : (c : goal.Else-is_err) → Tunes c.args.order c.args.length
     c.args.delay
 within c =
-    let u = c.before in
-    let s = u.args in
-    (tuning_is s.order s.length s.delay).0 (sym u.untuned.ensures ∙ c.if-untuned-ne0.false)
+    let s = c.args in
+    let x = c.untuned in
+    (tuning_is s.order s.length s.delay).0
+    (sym (not-err-code x.result x.ensures (sym c.is_err.ensures.value ∙ c.if-is_err.false)))
 
 pub set-c-requires : goal.set-c-requires
 set-c-requires c = (within c).0
