@@ -31,13 +31,7 @@ pub fn room(at: usize, k: usize, n: usize) -> usize
     ensures { (result ≤ n) × Apart at k result }
 {
     let p = place(at, k);
-    least(n, least(2_112 - at, 2_112 - p))
-}
-
-fn least(a: usize, b: usize) -> usize
-    ensures { (result ≤ a) × (result ≤ b) }
-{
-    if a < b { a } else { b }
+    n.min(2_112 - at).min(2_112 - p)
 }
 
 // A place, round the ring.
@@ -55,5 +49,5 @@ pub fn write(line: &mut [i32; 2112], at: usize, s: Value) -> usize
         × (ring result line.new ≡ s.n ∷ take 2111 (ring at line.old)) }
 {
     samples::write(line, at, s);
-    if at == 2_111 { 0 } else { at + 1 }
+    round(at + 1)
 }

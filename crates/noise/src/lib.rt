@@ -6,33 +6,15 @@ ghost use Rattle.std.specs.Prelude.{◌≡◌};
 ghost use Rattle.noise.specs.Noise.{next as Next, value, drawn};
 
 use integer::wrapping_mul_u32;
-use std::num::wrapping_add_u32;
 
+// C gets this struct by value.
 #[derive(Clone, Copy)]
 pub struct Drawn {
     pub value: i32,
     pub state: u32,
 }
 
-// The state after one draw.
-fn next(state: u32) -> u32
-    ensures { result ≡ Next state }
-{
-    wrapping_add_u32(wrapping_mul_u32(1_664_525, state), 1_013_904_223)
-}
-
-// One draw on a state, by value.
-fn moved(state: u32) -> Drawn
-    ensures { result ≡ drawn state }
-{
-    let moved = next(state);
-    Drawn {
-        value: (moved / 65_536) as i32 - 32_768,
-        state: moved,
-    }
-}
-
-// A noise state that a caller lends, and finds advanced.
+// A noise state that a caller lends, and finds advanced. Document 01 names this form.
 #[derive(Clone, Copy)]
 pub struct Noise {
     pub state: u32,
@@ -44,9 +26,9 @@ impl Noise {
         ensures { (result ≡ value (Next self.old.state))
             × (self.new.state ≡ Next self.old.state) }
     {
-        let d = moved(self.state);
-        self.state = d.state;
-        d.value
+        let next = wrapping_mul_u32(1_664_525, self.state).wrapping_add(1_013_904_223);
+        self.state = next;
+        (next / 65_536) as i32 - 32_768
     }
 }
 

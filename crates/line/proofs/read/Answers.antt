@@ -1,6 +1,5 @@
 -- `line::read` meets its contract: `ring-read` at the place that `place` gives.
--- Assumes nothing.
-use mathlib.Core.Path.{sym, ◌∙◌}
+use Rattle.std.proofs.Common.{sym, ◌∙◌}
 use Rattle.line.proofs.Ring.{ring-read}
 use Rattle.line.proofs.read.Goals as goal
 
