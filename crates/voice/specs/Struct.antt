@@ -26,6 +26,11 @@ abbrev pub kind_of : Kind → Rule.Kind
 kind_of Announced = Rule.announced
 kind_of Asked = Rule.asked
 
+-- "kind (0 none, 1 announced, 2 asked)"
+abbrev pub kind_number : Kind → ℕ
+kind_number Announced = 1
+kind_number Asked = 2
+
 abbrev pub prepared_of : Kind → Filter → ℕ → Rule.Waiting
 prepared_of k e n =
     record { kind = kind_of k; tuning = tuning_of e.tuning; taken = n; state = filter_of e }

@@ -8,7 +8,7 @@ ghost use Rattle.refusal.specs.Numbers.{code_of};
 ghost use Rattle.refusal.specs.Orders.{Takes, orders, order as Order, delay as Delay};
 ghost use Rattle.rule.specs.Tests.{long};
 ghost use Rattle.rule.specs.Voice.{commits as Commits};
-ghost use Rattle.voice.specs.Struct.{kind_of, with_of, settled_of};
+ghost use Rattle.voice.specs.Struct.{kind_of, kind_number, with_of, settled_of};
 ghost use Rattle.voice.specs.Called.{Rests};
 
 use allpass::{State, at_rest};
@@ -34,8 +34,17 @@ pub struct Filter {
 // A change waits as an announced one, which commits itself, or as one that was asked for.
 #[derive(Clone, Copy)]
 pub enum Kind {
-    Announced,
-    Asked,
+    Announced = 1,
+    Asked = 2,
+}
+
+impl Kind {
+    // Its number where a voice is words or bytes.
+    pub fn number(self) -> u32
+        ensures { result ≡ kind_number self }
+    {
+        self as u32
+    }
 }
 
 // A change that waits, with how many samples its eliminator has taken, counted up to the advance; or none.
