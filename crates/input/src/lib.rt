@@ -7,7 +7,8 @@ ghost use Rattle.std.proofs.Math.Seq.{paste};
 
 use std::io::{Read, Stdin};
 
-// A read that failed: how many bytes the room holds, as many as before, and the system's number of the error.
+// A read that failed: how many bytes the room holds, as many as before, and the system's number of the error, as
+// `complain` of print takes it.
 #[derive(Clone, Copy)]
 pub struct Failed {
     pub held: usize,

@@ -1,3 +1,2 @@
-mod Joins
 pub mod Texts
 pub mod Printers

@@ -1,32 +1,24 @@
--- A call that puts a text into a printer's buffer, after one that made room or put another; and a call on a printer
--- whose standard output took no more. What a printer prints of each of a list.
-use Rattle.std.proofs.Common.{◌≡◌, ℕ, ◌≤◌, List, [], ◌∷◌, ◌++◌, Some, None, refl, sym, ap, subst, ◌∙◌, arith}
+-- A text put where a printer made room, what a call did in other words, and what is printed of each of a list.
+use Rattle.std.proofs.Common.{◌≡◌, ℕ, List, [], ◌∷◌, ◌++◌, refl, subst, ◌∙◌, arith}
+use Rattle.write.specs.Written.{Wrote}
 use Rattle.print.specs.declared.Printer.{Printer}
-use Rattle.print.specs.Printed.{none}
+use Rattle.print.specs.Printed.{MadeRoom, Printed, none}
 use Rattle.print.specs.Printer.{place, Prints, PrintsEach}
 use Rattle.print.proofs.Texts.{another}
 
-module _ {A B : List ℕ → ℕ → List ℕ → ℕ → Type 0} {p q : Printer} (first : Prints A p q) where
-  pub then : {at r : ℕ} {after : List ℕ} → q.held ≡ Some at → r ≤ 4097
-      → (A p.buffer (place p.held) q.buffer at → B p.buffer (place p.held) after r)
-      → Prints B p (record { out = q.out; buffer = after; held = Some r })
-  then e low both = record {
-    does = both (subst (λ (k : ℕ). A p.buffer (place p.held) q.buffer k) (ap place e) first.does);
-    within = low;
-    out = first.out;
-  }
+pub put : {p q : Printer} {t after : List ℕ} {r : ℕ} (k : ℕ)
+    → Prints (λ before at after r. (after ≡ before) × MadeRoom at r) p q → place q.held ≡ k → Wrote t q.buffer k after r
+    → Printed t p.buffer (place p.held) after r
+put {p} {q} {t} {after} {r} k room at w = record {
+  place = k;
+  room = subst (λ (n : ℕ). MadeRoom (place p.held) n) at room.does.1;
+  wrote = subst (λ (b : List ℕ). Wrote t b k after r) room.does.0 w;
+}
 
-  pub closed : q.held ≡ None
-      → (A p.buffer (place p.held) q.buffer 4097 → B p.buffer (place p.held) q.buffer 4097)
-      → Prints B p q
-  closed e both =
-      let to_place = λ (P : ℕ → Type 0) (h : P 4097). subst P (sym (ap place e)) h in
-      record {
-        does = to_place (λ k. B p.buffer (place p.held) q.buffer k)
-            (both (subst (λ (k : ℕ). A p.buffer (place p.held) q.buffer k) (ap place e) first.does));
-        within = first.within;
-        out = first.out;
-      }
+-- what a call did, said in other words
+pub in_words : {A B : List ℕ → ℕ → List ℕ → ℕ → Type 0} {p q : Printer} → Prints A p q
+    → B p.buffer (place p.held) q.buffer (place q.held) → Prints B p q
+in_words a b = record { does = b; within = a.within; out = a.out }
 
 module _ {X : Type 0} {One : X → List ℕ → ℕ → List ℕ → ℕ → Type 0} where
   pub each_none : (p : Printer) → PrintsEach One [] p p

@@ -1,4 +1,6 @@
 // Numbers and bytes, each behind a blank but for `line`.
+// Not by `write!`: it hands a text on in parts, and Printed says that each stands whole where room was made.
+// Not one method over a trait: each has a clause of its own, and one for all would be no plainer.
 ghost use Rattle.std.specs.Prelude.{ℕ, ℤ};
 ghost use Rattle.print.specs.Printed.{Number, Signed, Hex, Line};
 ghost use Rattle.print.specs.Printer.{Prints, PrintsEach};
@@ -10,11 +12,9 @@ impl Printer {
     pub fn number<N: Into<u64>>(&mut self, n: N)
         ensures { (m : ℕ) × N.converts n m × Prints (Number m) self.old self.new }
     {
-        let m = n.into();
-        self.bytes(b" ");
-        if let Some(at) = self.held {
-            self.held = Some(write::number(&mut self.buffer, at, m));
-        }
+        let mut text = [b' '; 21];
+        let end = write::number(&mut text, 1, n.into());
+        self.bytes(&text[..end]);
     }
 
     // Each of some numbers.
@@ -30,23 +30,19 @@ impl Printer {
     pub fn signed<X: Into<i64>>(&mut self, x: X)
         ensures { (y : ℤ) × X.converts x y × Prints (Signed y) self.old self.new }
     {
-        let y = x.into();
-        self.bytes(b" ");
-        if let Some(at) = self.held {
-            self.held = Some(write::signed(&mut self.buffer, at, y));
-        }
+        let mut text = [b' '; 22];
+        let end = write::signed(&mut text, 1, x.into());
+        self.bytes(&text[..end]);
     }
 
     // A number with a sign, on a line.
     pub fn line<X: Into<i64>>(&mut self, x: X)
         ensures { (y : ℤ) × X.converts x y × Prints (Line y) self.old self.new }
     {
-        let y = x.into();
-        self.room();
-        if let Some(at) = self.held {
-            let end = write::signed(&mut self.buffer, at, y);
-            self.held = Some(write::bytes(&mut self.buffer, end, b"\n"));
-        }
+        let mut text = [0u8; 22];
+        let last = write::signed(&mut text, 0, x.into());
+        let end = write::bytes(&mut text, last, b"\n");
+        self.bytes(&text[..end]);
     }
 
     // Each of some samples.
@@ -62,10 +58,9 @@ impl Printer {
     pub fn hex(&mut self, b: u8)
         ensures { Prints (Hex b) self.old self.new }
     {
-        self.bytes(b" ");
-        if let Some(at) = self.held {
-            self.held = Some(write::hex(&mut self.buffer, at, b));
-        }
+        let mut text = [b' '; 3];
+        let end = write::hex(&mut text, 1, b);
+        self.bytes(&text[..end]);
     }
 
     // Each of some bytes.

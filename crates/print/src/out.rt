@@ -21,7 +21,7 @@ impl Out {
         let _ = self.told.write_all(s);
     }
 
-    // The system's words for an error, without its number in brackets behind them.
+    // The system's words for an error. std prints its number behind them, in brackets, which the output may not have.
     fn reason(&self, code: i32) {
         let mut text = [0u8; 320];
         let mut room = Cursor::new(&mut text[..]);

@@ -10,6 +10,7 @@ pub mod pieces;
 use std::ops::Range;
 
 // How many bytes stand before the first that is b; all of them where none is.
+// Not an Option: `Before` holds this count where none is too, and its callers cut the text there.
 pub fn before(s: &[u8], b: u8) -> usize
     ensures { Before b s.now result }
 {
@@ -20,7 +21,7 @@ pub fn before(s: &[u8], b: u8) -> usize
 fn is_blank(b: u8) -> bool
     ensures { result ≡ blank b }
 {
-    b == b' ' || b == b'\t'
+    matches!(b, b' ' | b'\t')
 }
 
 // How many blanks the text starts with.
@@ -30,7 +31,8 @@ fn blanks(s: &[u8]) -> usize
     s.iter().position(|b| !is_blank(*b)).unwrap_or(s.len())
 }
 
-// How many bytes the text starts with that are no blanks.
+// How many bytes the text starts with that are no blanks. One function with a test passed in is no plainer than
+// these: its clause would speak of the calls of a closure.
 fn letters(s: &[u8]) -> usize
     ensures { Stops s.now 0 result }
 {

@@ -1,34 +1,16 @@
 -- `print::Printer::signed` meets its contract: a blank, and then the sign and the digits.
-use Rattle.std.proofs.Common.{ap, arith, rules}
-use Rattle.write.proofs.Places.{signed-within, signed_past}
-use Rattle.print.specs.Printer.{place}
-use Rattle.print.proofs.Printers.{then, closed}
-use Rattle.print.proofs.Texts.{signed}
+use Rattle.std.proofs.Common.{rules}
 use mir.Facts.{to_z-of_z}
 use mir.Syntax.{w64}
 use mir.Val.{SFits}
+use Rattle.print.proofs.Printers.{in_words}
+use Rattle.print.proofs.Texts.{signed}
 use Rattle.print.proofs.Printer.signed.Goals as goal
 
-pub returns-in-Some : goal.returns-in-Some
-returns-in-Some g c =
-    let q = c.bytes.new.self in
-    let y = c.into-y.result in
-    let fits : SFits w64 y = record { sfits = c.into-y.type_inv } in
-    let s = rw (to_z-of_z fits) at c.signed.ensures in (
-      y,
-      c.into-y.ensures,
-      then c.bytes.ensures c.in-Some.is
-          (signed-within y q.buffer c.signed.new.buffer 4097 s
-          (omega (arith, ap place c.in-Some.is, c.bytes.ensures.within)) (search rules))
-          (λ p. signed y (search rules) p s),
-    )
-
-pub returns-in_default : goal.returns-in_default
-returns-in_default g c =
-    let q = c.bytes.new.self in
-    let y = c.into-y.result in (
-      y,
-      c.into-y.ensures,
-      closed c.bytes.ensures c.in_default.is
-          (λ p. signed y (search rules) p (signed_past y q.buffer 4097 (record { sfits = c.into-y.type_inv }) (search rules))),
-    )
+pub returns : goal.returns
+returns g c =
+    let y = c.into.result in
+    let fits : SFits w64 y = record { sfits = c.into.type_inv } in
+    let p = signed y (search rules) (rw (to_z-of_z fits) at c.signed-end.ensures) in
+    let b = c.bytes.ensures in
+    (y, c.into.ensures, in_words b (record { text = p.text; spells = p.is; printed = rw p.taken at b.does }))
