@@ -17,15 +17,9 @@ fn store(file: &mut [u8], samples: &[i32])
     requires { (44 + 3 * length samples.now ≤ length file.old) × (loudest samples.now ≤ M) }
     ensures { file.new ≡ laid file.old 44 (stored 3 samples.now) }
 {
-    let mut i = 0;
-    while i < samples.len() {
-        put(
-            file,
-            44 + 3 * i,
-            3,
-            bits(samples::read(samples, i), 16_777_216),
-        );
-        i = i + 1;
+    for (i, &x) in samples.iter().enumerate() {
+        let x = Value { n: i64::from(x) };
+        put(file, 44 + 3 * i, 3, bits(x, 16_777_216));
     }
 }
 
@@ -47,7 +41,7 @@ pub fn fill(file: &mut [u8], rate: u32, samples: &[i32])
         ≡ File rate samples.now
         ++ drop (file_size (length samples.now)) file.old }
 {
-    header(file, rate as u64, samples.len());
+    header(file, u64::from(rate), samples.len());
     store(file, samples);
     pad(file, samples.len());
 }
@@ -57,10 +51,9 @@ fn nearest(x: Value) -> Value
     requires { Fits 3 x.n }
     ensures { result.n ≡ Clip x.n }
 {
-    if x.n < -8_388_607 {
-        return Value { n: -8_388_607 };
+    Value {
+        n: x.n.max(-8_388_607),
     }
-    x
 }
 
 // The sample that three bytes read as.
@@ -77,9 +70,7 @@ pub fn load(file: &[u8], samples: &mut [i32])
     ensures { samples.new
         ≡ map Clip (loaded 3 (length samples.old) (drop 44 file.now)) }
 {
-    let mut i = 0;
-    while i < samples.len() {
+    for i in 0..samples.len() {
         samples::write(samples, i, sample(file, 44 + 3 * i));
-        i = i + 1;
     }
 }

@@ -1,5 +1,4 @@
 -- `riff::data::fill` meets its contract: the header, the data and the padding, one after the other.
--- Assumes nothing.
 use mathlib.Core.Path.{◌≡◌, ap, ◌∙◌}
 use mathlib.Core.List.{List, ◌++◌}
 use Prim.Native.Nat.{ℕ, ◌+◌, ◌*◌, ◌≤◌}
@@ -37,9 +36,6 @@ module _ (d : List ℕ) (fs : ℕ) (xs : List ℤ) (h : file_size (length xs) �
 
 pub returns : goal.returns
 returns c =
-    let p3 = c.before.before in
-    let p2 = p3.before.before.before.before in
-    let p1 = p2.before.before.before.before in
-    let s = p1.before.before.before in
-    rw (p3.pad.ensures, p2.store.ensures, p1.header.ensures)
-    (filled s.args.file.now s.args.rate s.args.samples.now s.requires.0)
+    let a = c.args in
+    rw (c.pad.ensures, c.store.ensures, c.header.ensures, c.from.ensures)
+    (filled a.file.now a.rate a.samples.now c.requires.0)

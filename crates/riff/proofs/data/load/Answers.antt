@@ -1,10 +1,6 @@
 -- `riff::data::load` meets its contract: the samples below i are read.
--- Assumes nothing.
-use mathlib.Core.Path.{◌≡◌, refl, sym, ◌∙◌}
-use mathlib.Core.List.{List}
-use Prim.Native.Nat.{ℕ, ◌<◌}
-use native.Mathlib.Omega.{arith}
-use lib.ListN.{length, drop, length-map}
+use Rattle.std.proofs.Common.{◌≡◌, List, ℕ, ◌<◌, length, drop, refl, sym, ◌∙◌, arith}
+use lib.ListN.{length-map}
 use Rattle.integer.specs.Rounding.{clip}
 use Rattle.integer.proofs.Rounding.{clip_abs}
 use Rattle.samples.proofs.Taken.{one_more, all-taken}
@@ -20,23 +16,21 @@ pub loop-i-init : goal.loop-i-init
 loop-i-init c =
     let a = c.args in
     let l = all-length a.file.now (length a.samples.now) in
-    (refl, record { within = omega arith; long = sym l; same = refl })
+    record { within = omega arith; long = sym l; same = refl }
 
 pub write-requires : goal.write-requires
-write-requires c = (omega (arith, c.loop-i-test.true), rw c.sample.ensures (clip_abs _))
+write-requires c = (omega arith, rw c.sample.ensures (clip_abs _))
 
 pub loop-i-preserved : goal.loop-i-preserved
 loop-i-preserved c =
     let l = c.loop-i in
     let s = c.args.file.now in
     let n = length c.args.samples.now in
-    let h : l.i < n = omega (arith, c.loop-i-test.true, l.invariant.0) in
-    let y = c.sample.result.n in (
-      c.write.auto.s ∙ l.invariant.0,
-      rw c.write.ensures
-          (one_more (all s n) l.samples l.i l.invariant.1 y (omega (arith, all-length s n))
-          (c.sample.ensures ∙ sym (sample-at s n l.i h))),
-    )
+    let h : l.i < n = omega arith in
+    let y = c.sample.result.n in
+    rw c.write.ensures
+    (one_more (all s n) l.samples l.i l.invariant y (omega (arith, all-length s n))
+    (c.sample.ensures ∙ sym (sample-at s n l.i h)))
 
 pub returns : goal.returns
 returns c =
@@ -44,4 +38,4 @@ returns c =
     let a = c.args in
     let s = a.file.now in
     let n = length a.samples.now in
-    all-taken (all s n) l.samples l.i l.invariant.1 (omega (arith, all-length s n))
+    all-taken (all s n) l.samples l.i l.invariant (omega (arith, all-length s n))

@@ -1,20 +1,15 @@
 -- `riff::data::nearest` meets its contract: of numbers of 24 bits, −8,388,608 alone is no sample.
--- Assumes nothing.
-use mathlib.Core.Path.{refl}
-use mir.Syntax.{w64}
-use Rattle.integer.proofs.View.{onev, read, Zs}
+use Rattle.std.proofs.Common.{arith, w64, SFits, to_z-of_z}
+use lib.IntN.{negsuc}
+use Rattle.std.proofs.lemmas.Int.{int_max_is}
+use Rattle.integer.proofs.View.{onev, Zs}
 use Rattle.integer.proofs.Rounding.{clipv}
 use Rattle.riff.proofs.data.nearest.Goals as goal
 
-pub returns-then-x-ltminus8388607 : goal.returns-then-x-ltminus8388607
-returns-then-x-ltminus8388607 c =
-    let u = c.args.x.n in
-    let l = rw (read w64 u c.struct_told-1.given.0.1 refl) at c.if-x-ltminus8388607.true in
-    omega (Zs, clipv u, onev u)
-
 pub returns : goal.returns
 returns c =
-    let s = c.before.before.before in
-    let u = s.args.x.n in
-    let l = rw (read w64 u c.struct_told-1.given.0.1 refl) at c.if-x-ltminus8388607.false in
-    omega (Zs, clipv u, onev u, s.requires.most)
+    let u = c.args.x.n in
+    let f : SFits w64 u = record { sfits = omega arith } in
+    let r : SFits w64 c.max.result = record { sfits = omega arith } in
+    let e = rw (to_z-of_z f) at c.max.ensures.value in
+    rw (to_z-of_z r, e) (omega (Zs, clipv u, onev u, c.requires.most, int_max_is u (negsuc 8388606)))

@@ -1,16 +1,8 @@
 -- `riff::data::store` meets its contract: what is left, laid from the next place on, makes the whole.
--- Assumes nothing.
-use mathlib.Core.Path.{◌≡◌}
-use Prim.Native.Nat.{◌+◌, ◌-◌, ◌*◌, ◌≤◌}
-use lib.ListN.{length, drop}
+use Rattle.std.proofs.Common.{◌≡◌, ◌+◌, ◌*◌, drop}
 use Rattle.octets.specs.Octets.{stored, laid}
 use Rattle.riff.proofs.data.store.Given as goal
 
 abbrev pub invariant-loop-i : goal.invariant-loop-i
 invariant-loop-i l =
-    (l.i ≤ length l.samples)
-    × (length l.file ≡ length l.initial.file)
-    × (laid l.file (44 + 3 * l.i) (stored 3 (drop l.i l.samples)) ≡ laid l.initial.file 44 (stored 3 l.samples))
-
-abbrev pub decreases-loop-i : goal.decreases-loop-i
-decreases-loop-i l = length l.samples - l.i
+    laid l.file (44 + 3 * l.i) (stored 3 (drop l.i l.samples)) ≡ laid l.initial.file 44 (stored 3 l.samples)
