@@ -1,96 +1,65 @@
--- The calls of each kind, and what a call puts over the front of a lent output.
+-- The calls that are no block, and what a call puts over the front of a lent output.
 -- Assumes nothing.
-use mathlib.Core.Path.{◌≡◌, refl, sym, ap, ap₂, subst, ◌∙◌}
+use mathlib.Core.Path.{◌≡◌, refl, sym, ap, ap₂, ◌∙◌}
 use mathlib.Core.Bool.{Bool, true, false, cond}
 use mathlib.Core.List.{List, [], ◌++◌}
-use Prim.Native.Nat.{ℕ, zero, suc, ◌≤◌, ◌<◌}
-use native.Mathlib.Omega.{arith}
-use borrow.Author.Tests.{ne_eqb}
+use Prim.Native.Nat.{ℕ}
 use lib.Dec.{eqb}
 use lib.IntN.{ℤ}
 use lib.ListN.{length, take, drop, take-append-drop}
+use Rattle.std.specs.Prelude.{Result, Ok, Err}
+use Rattle.refusal.specs.declared.Refusal.{Refusal}
+use Rattle.allpass.specs.Bounds.{Within}
+use Rattle.integer.specs.Rounding.{M}
 use Rattle.line.specs.Ring.{ring}
-use Rattle.rule.specs.Calls.{Call, commit, withdraw, inputs, number, count}
-use Rattle.rule.specs.State.{State, back, told, block_out, put}
+use Rattle.rule.specs.Calls as Rule
+use Rattle.rule.specs.Calls.{inputs, number, count}
+use Rattle.rule.specs.State.{State, told, block_out, put}
 use Rattle.rule.specs.Voice.{Voice}
 use Rattle.rule.proofs.Puts.{put-none}
 use Rattle.voice.specs.declared.Head.{Head}
 use Rattle.voice.specs.Struct.{state_of, voice_of}
-use Rattle.voice.specs.Called.{Answer}
-use Rattle.voice.specs.Called.{Called, On, lent}
+use Rattle.voice.specs.Called.{Called, lent, answered}
+use Rattle.voice.proofs.Called.{on}
 use Rattle.change.specs.declared.Changed.{Changed}
-use Rattle.list.specs.Words.{called, last_kind}
+use Rattle.list.specs.declared.words.Call.{Call}
+use Rattle.list.specs.declared.words.Call.TheVariants.{Loss, Pluck, Announce, Instant, Ask, Commit, Withdraw}
+use Rattle.list.specs.Items.{made_of}
 use Rattle.list.specs.Makes.{Makes}
 use Rattle.samples.specs.Samples.{over}
 
--- a call of another kind than 0 makes no step
-pub still : (kind a b c : ℕ) (xs : List ℤ) → 0 < kind → kind ≤ last_kind → inputs (called kind a b c xs) ≡ []
-still zero a b c xs h k = absurd (omega arith)
-still (suc zero) a b c xs h k = refl
-still (suc (suc zero)) a b c xs h k = refl
-still (suc (suc (suc zero))) a b c xs h k = refl
-still (suc (suc (suc (suc zero)))) a b c xs h k = refl
-still (suc (suc (suc (suc (suc zero))))) a b c xs h k = refl
-still (suc (suc (suc (suc (suc (suc zero)))))) a b c xs h k = refl
-still (suc (suc (suc (suc (suc (suc (suc zero))))))) a b c xs h k = refl
-still (suc (suc (suc (suc (suc (suc (suc (suc n)))))))) a b c xs h k = absurd (omega arith)
+-- a call that is no block makes no step
+pub still : (c : Call) → inputs (made_of c) ≡ []
+still (Loss g) = refl
+still (Pluck p) = refl
+still (Announce t) = refl
+still (Instant t) = refl
+still (Ask t) = refl
+still Commit = refl
+still Withdraw = refl
 
--- the kind is known to be k
-pub known : (h : Head) (a b c : ℕ) (r : Answer) {n : ℕ} (k : ℕ) → n ≡ k
-    → ((xs : List ℤ) → Called h (called k a b c xs) r) → (xs : List ℤ) → Called h (called n a b c xs) r
-known h a b c r k e f = subst (λ (n : ℕ). (xs : List ℤ) → Called h (called n a b c xs) r) (sym e) f
+pub over-still : (v : State) (c : Call) (before : List ℤ) → before ≡ over (put v (made_of c)) before
+over-still v c before = sym (ap (λ (p : List ℤ). over p before) (put-none v (made_of c) (still c)))
 
--- the kind is 4
-pub instantly : (h : Head) (l : List ℤ) (a b c : ℕ) (r : Changed) {n : ℕ} → n ≡ 4
-    → ((xs : List ℤ) → Makes h l (called 4 a b c xs) r) → (xs : List ℤ) → Makes h l (called n a b c xs) r
-instantly h l a b c r e f =
-    subst (λ (n : ℕ). (xs : List ℤ) → Makes h l (called n a b c xs) r) (sym e) f
+-- a call c that counts nothing, and that gave x
+pub record Uncounted (h : Head) (c : Call) (x : Result Head Refusal) : Type 0 where
+  pub made : Called h (made_of c) (answered h x)
+  pub none : (v : Voice) (q : ℕ → ℤ) → count v q (made_of c) ≡ 0
 
--- what was made of a call that counts nothing
-pub uncounted : {h : Head} {l : List ℤ} {c : Call} {a : Answer} {r : Changed} → On h l c a l
-    → (r.answer ≡ a) × (r.count ≡ 0) → count (voice_of h) (back (ring h.at l)) c ≡ 0 → Makes h l c r
-uncounted {h} {l} {c} o e z = record {
-  made = subst (λ (x : Answer). On h l c x l) (sym e.0) o;
-  count = e.1 ∙ sym z;
-}
+pub uncounted : {h : Head} {c d : Call} {x y : Result Head Refusal} → c ≡ d → x ≡ y
+    → Called h (made_of d) (answered h y) → ((v : Voice) (q : ℕ → ℤ) → count v q (made_of d) ≡ 0) → Uncounted h c x
+uncounted e i k z = rw (e, i) (record { made = k; none = z })
 
--- from kind 6 on it ends an ask
-pub ending : (kind a b c : ℕ) (xs : List ℤ) → 5 < kind
-    → cond (eqb kind 6) commit withdraw ≡ called kind a b c xs
-ending kind a b c xs h =
-    rw (
-      ne_eqb kind 0 (λ e. omega arith),
-      ne_eqb kind 1 (λ e. omega arith),
-      ne_eqb kind 2 (λ e. omega arith),
-      ne_eqb kind 3 (λ e. omega arith),
-      ne_eqb kind 4 (λ e. omega arith),
-      ne_eqb kind 5 (λ e. omega arith),
-    )
+module _ {h : Head} {l : List ℤ} {c : Call} (w : Within M (ring h.at l)) where
+  pub makes-none : {x : Result Head Refusal} {y : Result Changed Refusal} (r : Refusal) → x ≡ Err r → y ≡ Err r
+      → Uncounted h c x → Makes h l (made_of c) y
+  makes-none r e i u = rw i (record { made = on l (rw e at u.made) w; count = sym (u.none _ _) })
 
-ended-counts : (v : Voice) (q : ℕ → ℤ) (b : Bool) → count v q (cond b commit withdraw) ≡ 0
-unfolding count
-ended-counts v q true = refl
-ended-counts v q false = refl
+  pub makes : {x : Result Head Refusal} (k : Head) → x ≡ Ok k → Uncounted h c x
+      → Makes h l (made_of c) (Ok (record { head = k; count = 0 }))
+  makes k e u = record { made = on l (rw e at u.made) w; count = sym (u.none _ _) }
 
--- a call of another kind than 4 counts nothing
-pub counts-none : (v : Voice) (q : ℕ → ℤ) (kind a b c : ℕ) (xs : List ℤ) → (kind ≡ 4 → ⊥)
-    → count v q (called kind a b c xs) ≡ 0
-unfolding count
-counts-none v q zero a b c xs h = refl
-counts-none v q (suc zero) a b c xs h = refl
-counts-none v q (suc (suc zero)) a b c xs h = refl
-counts-none v q (suc (suc (suc zero))) a b c xs h = refl
-counts-none v q (suc (suc (suc (suc zero)))) a b c xs h = absurd (h refl)
-counts-none v q (suc (suc (suc (suc (suc zero))))) a b c xs h = refl
-counts-none v q (suc (suc (suc (suc (suc (suc n)))))) a b c xs h =
-    let k = suc (suc (suc (suc (suc (suc n))))) in
-    subst (λ (f : Call). count v q f ≡ 0) (ending k a b c xs (omega arith)) (ended-counts v q (eqb k 6))
-
-pub over-still : (v : State) (kind a b c : ℕ) (xs before : List ℤ) → 0 < kind → kind ≤ last_kind
-    → before ≡ over (put v (called kind a b c xs)) before
-over-still v kind a b c xs before h k =
-    sym (ap (λ (p : List ℤ). over p before) (put-none v (called kind a b c xs) (still kind a b c xs h k)))
-
+-- ---- a part of the output that was lent to a call, back in its place
 placed : (t : Bool) (p part before : List ℤ) (b : ℕ) → length part ≡ b
     → part ≡ cond t (cond t p []) (take b before)
     → part ++ drop b before ≡ over (cond t p []) before
@@ -99,8 +68,7 @@ placed true p part before b e j =
 placed false p part before b e j =
     ap (λ (x : List ℤ). x ++ drop b before) j ∙ take-append-drop b before
 
--- a part of the output that was lent to a call, back in its place
-pub over-lent : (h : Head) (l : List ℤ) (c : Call) (b : ℕ) (part before : List ℤ) → length part ≡ b
+pub over-lent : (h : Head) (l : List ℤ) (c : Rule.Call) (b : ℕ) (part before : List ℤ) → length part ≡ b
     → part ≡ lent h l c (take b before) → part ++ drop b before ≡ over (put (state_of h l) c) before
 unfolding put
 over-lent h l c b part before e i =

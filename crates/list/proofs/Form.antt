@@ -1,62 +1,56 @@
 -- Laws of the words of a list of calls: the next call's words, and what is in form with more output left.
 -- Assumes nothing.
 use mathlib.Core.Path.{◌≡◌, refl, sym, ap, subst, ◌∙◌}
-use mathlib.Core.Bool.{Bool, true, false, ◌&&◌}
+use mathlib.Core.Bool.{Bool, true, false, ◌&&◌, true≢false}
 use mathlib.Core.List.{List, [], ◌∷◌}
-use Prim.Native.Nat.{ℕ, suc, ◌+◌, ◌-◌, ◌≤◌, ◌<◌}
+use Prim.Native.Nat.{ℕ, suc, ◌-◌, ◌≤◌, ◌<◌}
 use native.Mathlib.Omega.{arith}
-use native.Mathlib.Decide.{dec_lt}
-use borrow.Author.Tests.{leb-true, ltb-true, le-leb, lt-ltb, eq-eqb, ne_eqb}
+use borrow.Author.Tests.{leb-true, ltb-true, le-leb, lt-leb, lt-ltb, ne_eqb}
 use lib.Dec.{T, leb, ltb, eqb}
 use lib.IntN.{ℤ}
-use lib.ListN.{length, drop, get_or, length-drop, drop_of_length-le}
-use lib.Seq.{drop-cons}
-use Rattle.list.specs.Words.{called, takes, lends, last_kind, calls, fits, formed}
+use lib.ListN.{length, drop, get_or}
 use Rattle.list.specs.declared.words.Item.{Item}
+use Rattle.list.specs.Words.{takes, lends, last_kind, calls, fits, formed}
+use Rattle.list.specs.Items.{item_of, inputs_of, outputs_of, Reads}
 
--- ---- the next call
--- w is the item whose words start at `at`, as `item_at` ensures it
-abbrev pub ItemAt : List ℕ → ℕ → Item → Type 0
-ItemAt ws at w =
-    (w.kind ≡ get_or ws at 0)
-    × (w.a ≡ get_or ws (at + 1) 0)
-    × (w.b ≡ get_or ws (at + 2) 0)
-    × (w.c ≡ get_or ws (at + 3) 0)
-    × (w.takes ≡ takes w.kind w.a)
-    × (w.lends ≡ lends w.kind w.b)
+-- ---- the words of the next call, and what is behind them
+pub four : (ws : List ℕ) → 4 ≤ length ws
+    → ws ≡ get_or ws 0 0 ∷ get_or ws 1 0 ∷ get_or ws 2 0 ∷ get_or ws 3 0 ∷ drop 4 ws
+four [] h = absurd (omega arith)
+four (a ∷ []) h = absurd (omega arith)
+four (a ∷ b ∷ []) h = absurd (omega arith)
+four (a ∷ b ∷ c ∷ []) h = absurd (omega arith)
+four (a ∷ b ∷ c ∷ d ∷ ws) h = refl
 
-module _ (ws : List ℕ) (at : ℕ) (h : at + 4 ≤ length ws) where
-  abbrev word : ℕ → ℕ
-  word i = get_or ws (at + i) 0
+-- ---- the next call, w by its words
+module _ {k a b c : ℕ} (ws : List ℕ) {w : Item} (e : Reads k a b c w) where
+  pub formed-next : (i o n : ℕ)
+      → formed (k ∷ a ∷ b ∷ c ∷ ws) i o n
+      ≡ (fits k (inputs_of w) (outputs_of w) i o n
+      && formed ws (i - inputs_of w) (o - outputs_of w) (n - 1))
+  unfolding formed
+  formed-next i o n = rw (e.inputs, e.outputs)
 
-  next : (i j : ℕ) → suc i ≡ at + j → at + j < length ws
-      → drop (suc i) ws ≡ word j ∷ drop (suc (at + j)) ws
-  next i j e l = ap (λ (n : ℕ). drop n ws) e ∙ drop-cons ws (at + j) 0 l
+  -- its kind is one that there is
+  pub formed-known : (i o n : ℕ)
+      → formed (k ∷ a ∷ b ∷ c ∷ ws) i o n
+      ≡ ((leb (inputs_of w) i && (leb (outputs_of w) o && ltb 0 n))
+      && formed ws (i - inputs_of w) (o - outputs_of w) (n - 1))
+  formed-known i o n =
+      formed-next i o n
+      ∙ ap (λ (t : Bool). (t && (leb (inputs_of w) i && (leb (outputs_of w) o && ltb 0 n)))
+      && formed ws (i - inputs_of w) (o - outputs_of w) (n - 1)) (le-leb k last_kind e.known)
 
-  four : drop at ws ≡ get_or ws at 0 ∷ word 1 ∷ word 2 ∷ word 3 ∷ drop (at + 4) ws
-  four =
-      let last : suc (at + 3) ≡ at + 4 = omega arith in
-      drop-cons ws at 0 (omega arith)
-      ∙ ap (λ (l : List ℕ). get_or ws at 0 ∷ l)
-      (next at 1 (omega arith) (omega arith)
-      ∙ ap (λ (l : List ℕ). word 1 ∷ l)
-      (next (at + 1) 2 (omega arith) (omega arith)
-      ∙ ap (λ (l : List ℕ). word 2 ∷ l)
-      (next (at + 2) 3 (omega arith) (omega arith) ∙ ap (λ (i : ℕ). word 3 ∷ drop i ws) last)))
+  pub calls-next : (xs : List ℤ)
+      → calls (k ∷ a ∷ b ∷ c ∷ ws) xs ≡ item_of w xs ∷ calls ws (drop (inputs_of w) xs)
+  unfolding calls
+  calls-next xs = rw (e.inputs, e.call xs)
 
-  module _ (w : Item) (e : ItemAt ws at w) where
-    pub formed-four : (i o n : ℕ)
-        → formed (drop at ws) i o n
-        ≡ (fits w.kind w.takes w.lends i o n
-        && formed (drop (at + 4) ws) (i - w.takes) (o - w.lends) (n - 1))
-    unfolding formed
-    formed-four i o n = rw (e.4, e.5, e.0, e.1, e.2, four)
-
-    pub calls-four : (xs : List ℤ)
-        → calls (drop at ws) xs
-        ≡ called w.kind w.a w.b w.c xs ∷ calls (drop (at + 4) ws) (drop w.takes xs)
-    unfolding calls
-    calls-four xs = rw (e.4, e.0, e.1, e.2, e.3, four)
+-- a kind that there is not
+pub formed-unknown : (k a b c : ℕ) (ws : List ℕ) (i o n : ℕ) → last_kind < k
+    → formed (k ∷ a ∷ b ∷ c ∷ ws) i o n ≡ false
+unfolding formed
+formed-unknown k a b c ws i o n h = rw (lt-leb k last_kind h)
 
 -- what fits
 pub and_left : (a b : Bool) → (a && b) ≡ true → a ≡ true
@@ -85,31 +79,19 @@ fits_are k t l i o n e =
     }
 
 -- ---- no whole call
-short : (ws : List ℕ) (i o n : ℕ) → 0 < length ws → length ws < 4 → formed ws i o n ≡ false
+pub formed-end : (ws : List ℕ) (i o n : ℕ) → length ws < 4 → formed ws i o n ≡ eqb (length ws) 0
 unfolding formed
-short [] i o n h k = absurd (omega arith)
-short (a ∷ []) i o n h k = refl
-short (a ∷ b ∷ []) i o n h k = refl
-short (a ∷ b ∷ c ∷ []) i o n h k = refl
-short (a ∷ b ∷ c ∷ d ∷ ws) i o n h k = absurd (omega arith)
+formed-end [] i o n k = refl
+formed-end (a ∷ []) i o n k = refl
+formed-end (a ∷ b ∷ []) i o n k = refl
+formed-end (a ∷ b ∷ c ∷ []) i o n k = refl
+formed-end (a ∷ b ∷ c ∷ d ∷ ws) i o n k = absurd (omega arith)
 
-pub formed-short : (ws : List ℕ) (at i o n : ℕ) → at < length ws → length ws - at < 4
-    → formed (drop at ws) i o n ≡ false
-formed-short ws at i o n h k =
-    let e = length-drop at ws in short (drop at ws) i o n (omega arith) (omega arith)
-
--- where no whole call is left, no word is, or the words are cut short
-pub formed-end : (ws : List ℕ) (at i o n : ℕ) → at ≤ length ws → length ws - at < 4
-    → formed (drop at ws) i o n ≡ eqb at (length ws)
-unfolding formed
-formed-end ws at i o n h k = go (dec_lt at (length ws))
-  where
-    go : Dec (at < length ws) → formed (drop at ws) i o n ≡ eqb at (length ws)
-    go (yes l) = rw (ne_eqb at (length ws) (λ e. omega arith)) (formed-short ws at i o n l k)
-    go (no l) =
-        let e : at ≡ length ws = omega arith in
-        let f : length ws ≤ at = omega arith in
-        rw (eq-eqb at (length ws) e, drop_of_length-le ws f)
+-- the words that are left of a list in form
+pub none-left : (ws : List ℕ) (i o n : ℕ) → length ws < 4 → formed ws i o n ≡ true → ws ≡ []
+none-left [] i o n k e = refl
+none-left (a ∷ ws) i o n k e =
+    absurd (true≢false (sym e ∙ formed-end (a ∷ ws) i o n k ∙ ne_eqb (suc (length ws)) 0 (λ z. omega arith)))
 
 -- ---- more output left
 pub formed-more : (ws : List ℕ) (i o p n : ℕ) → o ≤ p → formed ws i o n ≡ true → formed ws i p n ≡ true
@@ -127,3 +109,10 @@ formed-more (k ∷ a ∷ b ∷ c ∷ ws) i o p n h e =
     let r = formed-more ws (i - t) (o - l) (p - l) (n - 1) (omega arith) (and_right b d e) in
     let g : l ≤ p = omega (arith, f.output) in
     rw (le-leb k last_kind f.known, le-leb t i f.input, le-leb l p g, lt-ltb 0 n f.place) r
+
+-- the kind of a call that is in form
+pub known-kind : (k a b c : ℕ) (ws : List ℕ) (i o n : ℕ) → formed (k ∷ a ∷ b ∷ c ∷ ws) i o n ≡ true → k ≤ last_kind
+unfolding formed
+known-kind k a b c ws i o n e =
+    (fits_are k (takes k a) (lends k b) i o n
+    (and_left (fits k (takes k a) (lends k b) i o n) (formed ws (i - takes k a) (o - lends k b) (n - 1)) e)).known

@@ -1,46 +1,43 @@
 -- A list of calls that is performed call by call: what was put out and returned so far, with what is left,
 -- is the whole. Assumes nothing.
 use mathlib.Core.Path.{◌≡◌, refl, sym, ap, ◌∙◌}
-use mathlib.Core.Bool.{true, true≢false}
+use mathlib.Core.Bool.{true}
 use mathlib.Core.List.{List, [], ◌++◌, append-nil}
-use Prim.Native.Nat.{ℕ, ◌+◌, ◌-◌, ◌≤◌, ◌<◌}
+use Prim.Native.Nat.{ℕ, ◌-◌, ◌≤◌, ◌<◌}
 use native.Mathlib.Omega.{arith}
 use native.Mathlib.Nat.{sub-zero}
-use native.Mathlib.Decide.{dec_lt}
 use lib.IntN.{ℤ}
-use lib.ListN.{length, drop, drop_of_length-le}
+use lib.ListN.{length, drop}
 use Rattle.rule.specs.Calls.{Call}
 use Rattle.rule.specs.State.{State, puts, numbers}
 use Rattle.list.specs.Words.{calls, formed}
 use Rattle.samples.specs.Samples.{over}
-use Rattle.list.proofs.Form.{formed-short}
+use Rattle.list.proofs.Form.{none-left}
 use Rattle.list.proofs.Over.{over-long}
 
 -- ws are the words, xs the input, o and p the lent output and numbers, before any call on the voice v.
--- After the calls so far, out and nums are the lent output and numbers, and u is the voice; at, used,
--- written and k say how many words, inputs, outputs and numbers are done.
+-- After the calls so far, out and nums are the lent output and numbers, and u is the voice; rest is the words that
+-- are left, and used, written and k say how many inputs, outputs and numbers are done.
 pub record Running (ws : List ℕ) (xs o : List ℤ) (p : List ℕ) (v : State)
-    (out : List ℤ) (nums : List ℕ) (u : State) (at used written k : ℕ) : Type 0 where
+    (out : List ℤ) (nums : List ℕ) (u : State) (rest : List ℕ) (used written k : ℕ) : Type 0 where
   pub outs : List ℤ
   pub codes : List ℕ
-  pub at-within : at ≤ length ws
   pub used_within : used ≤ length xs
   pub written_is : written ≡ length outs
   pub written-within : written ≤ length o
   pub k-is : k ≡ length codes
   pub k-within : k ≤ length p
-  pub form : formed (drop at ws) (length xs - used) (length o - written) (length p - k) ≡ true
+  pub form : formed rest (length xs - used) (length o - written) (length p - k) ≡ true
   pub out-is : out ≡ over outs o
   pub nums_is : nums ≡ over codes p
-  pub out-all : outs ++ puts u (calls (drop at ws) (drop used xs)) ≡ puts v (calls ws xs)
-  pub nums_all : codes ++ numbers u (calls (drop at ws) (drop used xs)) ≡ numbers v (calls ws xs)
+  pub out-all : outs ++ puts u (calls rest (drop used xs)) ≡ puts v (calls ws xs)
+  pub nums_all : codes ++ numbers u (calls rest (drop used xs)) ≡ numbers v (calls ws xs)
 
 pub begun : (ws : List ℕ) (xs o : List ℤ) (p : List ℕ) (v : State)
-    → formed ws (length xs) (length o) (length p) ≡ true → Running ws xs o p v o p v 0 0 0 0
+    → formed ws (length xs) (length o) (length p) ≡ true → Running ws xs o p v o p v ws 0 0 0
 begun ws xs o p v e = record {
   outs = [];
   codes = [];
-  at-within = omega arith;
   used_within = omega arith;
   written_is = refl;
   written-within = omega arith;
@@ -54,8 +51,8 @@ begun ws xs o p v e = record {
 }
 
 module _ {ws : List ℕ} {xs o : List ℤ} {p : List ℕ} {v : State}
-    {out : List ℤ} {nums : List ℕ} {u : State} {at used written k : ℕ}
-    (r : Running ws xs o p v out nums u at used written k) where
+    {out : List ℤ} {nums : List ℕ} {u : State} {rest : List ℕ} {used written k : ℕ}
+    (r : Running ws xs o p v out nums u rest used written k) where
   -- ---- what is as long as it was
   pub out-long : length out ≡ length o
   out-long = over-long r.outs o out r.out-is (omega arith)
@@ -63,22 +60,11 @@ module _ {ws : List ℕ} {xs o : List ℤ} {p : List ℕ} {v : State}
   pub nums_long : length nums ≡ length p
   nums_long = over-long r.codes p nums r.nums_is (omega arith)
 
-  -- ---- where a word is left, four are
-  pub room : at < length ws → at + 4 ≤ length ws
-  room h = go (dec_lt (length ws - at) 4)
-    where
-      go : Dec (length ws - at < 4) → at + 4 ≤ length ws
-      go (yes l) =
-          absurd
-          (true≢false
-          (sym r.form ∙ formed-short ws at (length xs - used) (length o - written) (length p - k) h l))
-      go (no l) = omega arith
-
   -- ---- no call is left
-  module _ (h : length ws ≤ at) where
-    none : calls (drop at ws) (drop used xs) ≡ []
+  module _ (h : length rest < 4) where
+    none : calls rest (drop used xs) ≡ []
     unfolding calls
-    none = rw (drop_of_length-le ws h)
+    none = rw (none-left rest _ _ _ h r.form)
 
     outs-all : r.outs ≡ puts v (calls ws xs)
     outs-all =

@@ -1,4 +1,5 @@
 pub mod Words
+pub mod Items
 pub mod Makes
 pub mod Performed
 pub mod Clicks

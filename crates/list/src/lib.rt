@@ -2,16 +2,18 @@
 // Contracts cite specs/Performed.antt; demand 3 holds of its output for every list, specs/Clicks.antt.
 #![tactic(auto)]
 
+ghost use Rattle.open.specs.Opened.{opening_of};
 ghost use Rattle.list.specs.Performed.{Performs};
 
-use open::open;
+use open::{Opening, open};
+use refusal::{Refusal, code};
 
 pub mod one;
 mod run;
-mod words;
+pub mod words;
 
 // What `perform` returns: refusal is 31 where the words are not in form, else 0; opening is the number that
-// Open returned; written is how many samples the calls put out.
+// Open returned; written is how many samples the calls put out. No Result, since C gets this struct by value.
 #[derive(Clone, Copy)]
 pub struct Performed {
     pub refusal: u32,
@@ -21,18 +23,14 @@ pub struct Performed {
 
 // Opens a voice, and makes the calls of words on it, one after the other.
 pub fn perform(
-    order: u32,
-    length: u32,
-    delay: u32,
-    loss: u32,
-    advance: u32,
+    opening: Opening,
     words: &[u32],
     input: &[i32],
     output: &mut [i32],
     numbers: &mut [u32],
 ) -> Performed
     ensures { Performs
-        (record { N = order; L = length; d = delay; G = loss; Na = advance })
+        (opening_of opening)
         words.now
         input.now
         output.old
@@ -41,19 +39,18 @@ pub fn perform(
         output.new
         numbers.new }
 {
-    if words::formed(words, input.len(), output.len(), numbers.len()) {
-        let o = open(order, length, delay, loss, advance);
-        let mut line = o.voice.line;
-        Performed {
-            refusal: 0,
-            opening: o.refusal,
-            written: run::run(&mut line, o.voice.head, words, input, output, numbers),
-        }
-    } else {
-        Performed {
-            refusal: 31,
+    if !words::formed(words, input.len(), output.len(), numbers.len()) {
+        return Performed {
+            refusal: Refusal::ListForm.number(),
             opening: 0,
             written: 0,
-        }
+        };
+    }
+    let o = open(opening);
+    let mut line = o.voice.line;
+    Performed {
+        refusal: 0,
+        opening: code(o.answer),
+        written: run::run(&mut line, o.voice.head, words, input, output, numbers),
     }
 }

@@ -1,103 +1,103 @@
 // The words of a list of calls, read call by call, and whether they can be performed with so much input,
-// output and places for numbers: one pass, before anything is done. Contracts cite specs/Words.antt.
-ghost use Rattle.std.specs.Prelude.{◌≡◌, cond, ◌+◌, ◌≤◌, ◌<◌, eqb, length, get_or};
-ghost use Rattle.list.specs.Words.{takes as takes_of, lends as Lends, fits as fits_of, formed as Formed};
+// output and places for numbers: one pass, before anything is done. Contracts cite specs/Words.antt and specs/Items.antt.
+ghost use Rattle.std.specs.Prelude.{◌≡◌, ◌<◌, ◌&&◌, leb, ltb, IsNone, IfSome};
+ghost use Rattle.list.specs.Words.{last_kind, formed as Formed};
+ghost use Rattle.list.specs.Items.{inputs_of, outputs_of, Reads};
 
-// An item of a list is a call: its four words, a kind and three numbers, with how many samples it takes from
-// the input and how long an output it lends.
+use voice::{Pluck, Tuning};
+
+// A call that is no block.
 #[derive(Clone, Copy)]
-pub struct Item {
-    pub kind: u32,
-    pub a: u32,
-    pub b: u32,
-    pub c: u32,
-    pub takes: usize,
-    pub lends: usize,
+pub enum Call {
+    Loss(u32),
+    Pluck(Pluck),
+    Announce(Tuning),
+    Instant(Tuning),
+    Ask(Tuning),
+    Commit,
+    Withdraw,
 }
 
-// The kinds are 0 to 7: a block, a loss, a pluck, an announced and an instant change, an ask, a commit, a
-// withdrawal.
-pub const LAST_KIND: u32 = 7;
-
-// n where x is 0, else 0: what a kind takes or lends, since only kind 0 is a block, and what a call that
-// returned x put out.
-pub fn if_zero(x: u32, n: usize) -> usize
-    ensures { result ≡ cond (eqb x 0) n 0 }
-{
-    if x == 0 {
-        return n;
-    }
-    0
+// An item of a list is a call: a block of so many inputs and outputs, or another.
+#[derive(Clone, Copy)]
+pub enum Item {
+    Block(usize, usize),
+    Call(Call),
 }
 
-// The word at a place.
-fn word(words: &[u32], at: usize) -> u32
-    requires { at < length words.now }
-    ensures { result ≡ get_or words.now at 0 }
-{
-    words[at]
-}
+impl Item {
+    // The item of four words, a kind and three numbers. There are the kinds 0 to 7.
+    pub fn read(kind: u32, a: u32, b: u32, c: u32) -> Option<Item>
+        ensures none { IsNone result → last_kind < kind }
+        ensures some { IfSome result (λ i. Reads kind a b c i) }
+    {
+        let to = Tuning {
+            order: a,
+            length: b,
+            delay: c,
+        };
+        let call = match kind {
+            0 => return Some(Item::Block(a as usize, b as usize)),
+            1 => Call::Loss(a),
+            2 => Call::Pluck(Pluck {
+                amplitude: a,
+                left: b,
+                noise: c,
+            }),
+            3 => Call::Announce(to),
+            4 => Call::Instant(to),
+            5 => Call::Ask(to),
+            6 => Call::Commit,
+            7 => Call::Withdraw,
+            _ => return None,
+        };
+        Some(Item::Call(call))
+    }
 
-// The item whose words start at a place.
-pub fn item_at(words: &[u32], at: usize) -> Item
-    requires { at + 4 ≤ length words.now }
-    ensures { (result.kind ≡ get_or words.now at 0)
-        × (result.a ≡ get_or words.now (at + 1) 0)
-        × (result.b ≡ get_or words.now (at + 2) 0)
-        × (result.c ≡ get_or words.now (at + 3) 0)
-        × (result.takes ≡ takes_of result.kind result.a)
-        × (result.lends ≡ Lends result.kind result.b) }
-{
-    let kind = word(words, at);
-    let a = word(words, at + 1);
-    let b = word(words, at + 2);
-    Item {
-        kind: kind,
-        a: a,
-        b: b,
-        c: word(words, at + 3),
-        takes: if_zero(kind, a as usize),
-        lends: if_zero(kind, b as usize),
+    // How many samples it takes from the input.
+    pub fn inputs(self) -> usize
+        ensures { result ≡ inputs_of self }
+    {
+        match self {
+            Item::Block(inputs, _) => inputs,
+            Item::Call(_) => 0,
+        }
     }
-}
 
-// One call's words fit what is left.
-fn fits(
-    kind: u32,
-    takes: usize,
-    lends: usize,
-    inputs: usize,
-    outputs: usize,
-    numbers: usize,
-) -> bool
-    ensures { result ≡ fits_of kind takes lends inputs outputs numbers }
-{
-    if LAST_KIND < kind {
-        return false;
+    // How long an output it lends.
+    pub fn outputs(self) -> usize
+        ensures { result ≡ outputs_of self }
+    {
+        match self {
+            Item::Block(_, outputs) => outputs,
+            Item::Call(_) => 0,
+        }
     }
-    if inputs < takes {
-        return false;
+
+    // Whether it fits what is left.
+    fn fits(self, inputs: usize, outputs: usize, numbers: usize) -> bool
+        ensures { result
+            ≡ (leb (inputs_of self) inputs && (leb (outputs_of self) outputs && ltb 0 numbers)) }
+    {
+        self.inputs() <= inputs && self.outputs() <= outputs && 0 < numbers
     }
-    if outputs < lends {
-        return false;
-    }
-    0 < numbers
 }
 
 // Whole calls, each of which fits.
-pub fn formed(words: &[u32], mut inputs: usize, mut outputs: usize, mut numbers: usize) -> bool
+pub fn formed(mut words: &[u32], mut inputs: usize, mut outputs: usize, mut numbers: usize) -> bool
     ensures { result ≡ Formed words.now inputs outputs numbers }
 {
-    let mut at = 0;
-    while 4 <= words.len() - at {
-        let w = item_at(words, at);
-        if !fits(w.kind, w.takes, w.lends, inputs, outputs, numbers) {
+    while let [kind, a, b, c, rest @ ..] = words {
+        let Some(item) = Item::read(*kind, *a, *b, *c) else {
+            return false;
+        };
+        if !item.fits(inputs, outputs, numbers) {
             return false;
         }
-        inputs = inputs - w.takes;
-        outputs = outputs - w.lends;
+        inputs = inputs - item.inputs();
+        outputs = outputs - item.outputs();
         numbers = numbers - 1;
-        at = at + 4;
+        words = rest;
     }
-    at == words.len()
+    words.is_empty()
 }

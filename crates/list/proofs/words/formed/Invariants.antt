@@ -1,15 +1,14 @@
--- `list::words::formed` meets its contract: the words that are left are in form just where all are.
--- Assumes nothing.
-use Prim.Native.Nat.{◌≤◌, ◌-◌}
+-- The loop of `list::words::formed`: the words that are left are in form just where all are. The measure is how many
+-- are left.
 use mathlib.Core.Path.{◌≡◌}
-use lib.ListN.{length, drop}
+use lib.ListN.{length}
 use Rattle.list.specs.Words.{formed}
 use Rattle.list.proofs.words.formed.Given as goal
 
-abbrev pub invariant-loop-at : goal.invariant-loop-at
-invariant-loop-at l =
-    (l.at ≤ length l.words)
-    × (formed (drop l.at l.words) l.inputs l.outputs l.numbers ≡ formed l.words l.initial.inputs l.initial.outputs l.initial.numbers)
+abbrev pub invariant-loop-words : goal.invariant-loop-words
+invariant-loop-words l =
+    formed l.words l.inputs l.outputs l.numbers
+    ≡ formed l.fn.words l.initial.inputs l.initial.outputs l.initial.numbers
 
-abbrev pub decreases-loop-at : goal.decreases-loop-at
-decreases-loop-at l = length l.words - l.at
+abbrev pub decreases-loop-words : goal.decreases-loop-words
+decreases-loop-words l = length l.words
