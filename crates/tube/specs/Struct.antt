@@ -1,6 +1,10 @@
 -- The junction that the code's structs hold, in the terms of crate `junction`: `junction_of`. Definitions alone.
 use Rattle.std.specs.Prelude.{List, [], ◌∷◌, ℤ}
+use Rattle.std.specs.Prelude as Std
+use Rattle.std.specs.Prelude.{Some, None, Result, Ok, Err}
 use Rattle.std.proofs.Math.Option.{Option, none, some}
+use Rattle.refusal.specs.declared.Refusal.{Refusal}
+use Rattle.refusal.specs.Numbers.{number_of, code_of}
 use Rattle.allpass.specs.Allpass.{inner}
 use Rattle.junction.specs.Junction as Rule
 use Rattle.junction.specs.Junction.{Two}
@@ -8,11 +12,10 @@ use Rattle.junction.specs.Calls as Calls
 use Rattle.tube.specs.declared.filters.Filter.{Filter}
 use Rattle.tube.specs.declared.filters.Filters.{Filters}
 use Rattle.tube.specs.declared.filters.Pair.{Pair}
-use Rattle.tube.specs.declared.Waiting.{Waiting}
-use Rattle.tube.specs.declared.Waiting.TheVariants.{Idle, Move}
+use Rattle.tube.specs.declared.Move.{Move}
 use Rattle.tube.specs.declared.Junction.{Junction}
-use Rattle.tube.specs.declared.Answer.{Answer}
-use Rattle.tube.specs.declared.Step.{Step}
+use Rattle.tube.specs.declared.open.Opened.{Opened}
+use Rattle.tube.specs.declared.sample.Step.{Step}
 
 abbrev pub pair_of : Pair → Two ℤ
 pair_of x = record { a = x.a.n; b = x.b.n }
@@ -21,9 +24,9 @@ pair_of x = record { a = x.a.n; b = x.b.n }
 abbrev pub states_of : Filters → Two (List ℤ)
 states_of f = record { a = f.a.v1 ∷ []; b = f.b.v1 ∷ [] }
 
-abbrev pub waiting_of : Waiting → Option Rule.Move
-waiting_of Idle = none
-waiting_of (Move d taken f) = some (record { d = d; taken = taken; states = states_of f })
+abbrev pub waiting_of : Std.Option Move → Option Rule.Move
+waiting_of None = none
+waiting_of (Some m) = some (record { d = m.d; taken = m.taken; states = states_of m.filters })
 
 abbrev pub junction_of : Junction → Rule.Junction
 junction_of j = record {
@@ -35,17 +38,18 @@ junction_of j = record {
   waiting = waiting_of j.waiting;
 }
 
--- what an opening or a move returns, and what a sample does
-abbrev pub answer_of : Answer → Calls.Answer
-answer_of r =
-    record { number = r.refusal; outputs = Calls.nothing; junction = junction_of r.junction }
+-- what an opening returns; what a move and a sample return on j, which is left as it was where they are refused
+abbrev pub opened_of : Opened → Calls.Answer
+opened_of r = record { number = code_of r.answer; outputs = Calls.nothing; junction = junction_of r.junction }
 
-abbrev pub step_of : Step → Calls.Answer
-step_of r = record {
-  number = r.refusal;
-  outputs = record { right = r.right.n; left = r.left.n };
-  junction = junction_of r.junction;
-}
+abbrev pub moved : Junction → Result Junction Refusal → Calls.Answer
+moved j (Ok k) = record { number = 0; outputs = Calls.nothing; junction = junction_of k }
+moved j (Err r) = record { number = number_of r; outputs = Calls.nothing; junction = junction_of j }
+
+abbrev pub sampled : Junction → Result Step Refusal → Calls.Answer
+sampled j (Ok s) =
+    record { number = 0; outputs = record { right = s.right; left = s.left }; junction = junction_of s.junction }
+sampled j (Err r) = record { number = number_of r; outputs = Calls.nothing; junction = junction_of j }
 
 -- ---- parts of a sample
 -- a filter that has taken x
@@ -57,4 +61,4 @@ next_filters f x = record { a = next_of f.a x.a.n; b = next_of f.b x.b.n }
 
 -- j after its filters took x and became f
 abbrev pub take_of : Junction → Pair → Filters → Junction
-take_of j x f = record { r = j.r; d = j.d; advance = j.advance; filters = f; last = x; waiting = Idle }
+take_of j x f = record { r = j.r; d = j.d; advance = j.advance; filters = f; last = x; waiting = None }

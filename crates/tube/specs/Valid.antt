@@ -1,14 +1,13 @@
 -- The invariant of a junction, which opening gives and each call hands on, refused or not: all that a call
 -- requires. Definitions alone.
-use Rattle.std.specs.Prelude.{◌≡◌, [], ◌∷◌, ℕ, ◌*◌, ◌-◌, ◌≤◌, ◌<◌, ℤ, nat_abs}
+use Rattle.std.specs.Prelude.{◌≡◌, [], ◌∷◌, ℕ, ◌*◌, ◌-◌, ◌≤◌, ◌<◌, ℤ, nat_abs, Option, Some, None}
 use Rattle.integer.specs.Rounding.{M}
 use Rattle.refusal.specs.Limits.{Between}
 use Rattle.thiran.specs.Coefficients.{coefficients}
 use Rattle.tube.specs.declared.filters.Filter.{Filter}
 use Rattle.tube.specs.declared.filters.Filters.{Filters}
 use Rattle.tube.specs.declared.filters.Pair.{Pair}
-use Rattle.tube.specs.declared.Waiting.{Waiting}
-use Rattle.tube.specs.declared.Waiting.TheVariants.{Idle, Move}
+use Rattle.tube.specs.declared.Move.{Move}
 use Rattle.tube.specs.declared.Junction.{Junction}
 
 -- a filter of the delay d: its coefficient, and its state within 2M
@@ -31,9 +30,9 @@ pub record Early (advance d taken : ℕ) (f : Filters) : Type 0 where
   pub filters : Tunes d f
   pub early : taken < advance
 
-abbrev pub Waits : ℕ → Waiting → Type 0
-Waits advance Idle = Unit {0}
-Waits advance (Move d taken f) = Early advance d taken f
+abbrev pub Waits : ℕ → Option Move → Type 0
+Waits advance None = Unit {0}
+Waits advance (Some m) = Early advance m.d m.taken m.filters
 
 pub record Valid (j : Junction) : Type 0 where
   pub r : nat_abs j.r.n ≤ 32767
@@ -54,9 +53,9 @@ pub record Due (advance d taken : ℕ) (f : Filters) : Type 0 where
   pub filters : Tunes d f
   pub counted : taken ≤ advance
 
-abbrev pub Counts : ℕ → Waiting → Type 0
-Counts advance Idle = Unit {0}
-Counts advance (Move d taken f) = Due advance d taken f
+abbrev pub Counts : ℕ → Option Move → Type 0
+Counts advance None = Unit {0}
+Counts advance (Some m) = Due advance m.d m.taken m.filters
 
 -- a filter that can take x
 pub record Feeds (f : Filter) (x : ℤ) : Type 0 where

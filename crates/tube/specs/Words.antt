@@ -1,10 +1,9 @@
 -- The junction that 16 words of 32 bits are: every word means something, so that no list of words is refused here.
 -- Which junctions are those of an opening or a call is the invariant (specs/Valid.antt). Definitions alone.
-use Rattle.std.specs.Prelude.{cond, List, ℕ, ◌+◌, eqb, get_or}
+use Rattle.std.specs.Prelude.{cond, List, ℕ, ◌+◌, eqb, get_or, Option, Some, None}
 use Rattle.signs.specs.Signs.{signed_of}
 use Rattle.tube.specs.declared.filters.Filters.{Filters}
-use Rattle.tube.specs.declared.Waiting.{Waiting}
-use Rattle.tube.specs.declared.Waiting.TheVariants.{Idle, Move}
+use Rattle.tube.specs.declared.Move.{Move}
 use Rattle.tube.specs.declared.Junction.{Junction}
 use Rattle.tube.specs.declared.memory.Four.{Four}
 
@@ -16,8 +15,8 @@ filters_from ws i = record {
 }
 
 -- what waits: nothing where kind is 0, else a move
-abbrev pub waiting_from : ℕ → ℕ → ℕ → Filters → Waiting
-waiting_from kind d taken f = cond (eqb kind 0) Idle (Move d taken f)
+abbrev pub waiting_from : ℕ → ℕ → ℕ → Filters → Option Move
+waiting_from kind d taken f = cond (eqb kind 0) None (Some (record { d = d; taken = taken; filters = f }))
 
 unfoldable pub from_words : List ℕ → Junction
 from_words ws = record {

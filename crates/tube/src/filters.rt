@@ -61,9 +61,10 @@ pub fn at_rest(d: u32) -> Filters
     requires { Between 2049 d 6143 }
     ensures { Tunes d result × (states_of result ≡ rest_states) }
 {
-    let a = resting(d);
-    let b = resting(8_192 - d);
-    Filters { a: a, b: b }
+    Filters {
+        a: resting(d),
+        b: resting(8_192 - d),
+    }
 }
 
 fn coefficients(f: Filter) -> Coefficients
@@ -92,12 +93,13 @@ fn pass(f: Filter, x: Value) -> Output
     ensures { (result.y.n ≡ out (f.a1 ∷ []) (f.v1 ∷ []) x.n) × (result.filter ≡ next_of f x.n) }
 {
     let t = allpass(1, coefficients(f), state(f), x);
-    let y = t.y;
-    let g = Filter {
-        a1: f.a1,
-        v1: t.state.v1,
-    };
-    Output { y: y, filter: g }
+    Output {
+        y: t.y,
+        filter: Filter {
+            v1: t.state.v1,
+            ..f
+        },
+    }
 }
 
 // One sample of an eliminator.
@@ -106,7 +108,7 @@ fn feed(f: Filter, x: Value) -> Filter
     ensures { result ≡ next_of f x.n }
 {
     let s = eliminate(1, true, coefficients(f), state(f), x);
-    Filter { a1: f.a1, v1: s.v1 }
+    Filter { v1: s.v1, ..f }
 }
 
 // One sample of both filters.
@@ -117,13 +119,13 @@ pub fn pass_both(f: Filters, x: Pair) -> Outputs
 {
     let a = pass(f.a, x.a);
     let b = pass(f.b, x.b);
-    let ya = a.y;
-    let yb = b.y;
-    let fa = a.filter;
-    let fb = b.filter;
-    let y = Pair { a: ya, b: yb };
-    let g = Filters { a: fa, b: fb };
-    Outputs { y: y, filters: g }
+    Outputs {
+        y: Pair { a: a.y, b: b.y },
+        filters: Filters {
+            a: a.filter,
+            b: b.filter,
+        },
+    }
 }
 
 // One sample of both eliminators.
@@ -131,7 +133,8 @@ pub fn feed_both(f: Filters, x: Pair) -> Filters
     requires { FeedsBoth f x }
     ensures { result ≡ next_filters f x }
 {
-    let a = feed(f.a, x.a);
-    let b = feed(f.b, x.b);
-    Filters { a: a, b: b }
+    Filters {
+        a: feed(f.a, x.a),
+        b: feed(f.b, x.b),
+    }
 }

@@ -17,11 +17,12 @@ mod scatter;
 use filters::{Filters, Pair};
 use integer::Value;
 
-// A move that waits, with its d, how many inputs its eliminators have taken, and the eliminators; or none.
+// A move that waits: its d, how many inputs its eliminators have taken, and the eliminators.
 #[derive(Clone, Copy)]
-pub enum Waiting {
-    Idle,
-    Move(u32, u32, Filters),
+pub struct Move {
+    pub d: u32,
+    pub taken: u32,
+    pub filters: Filters,
 }
 
 // last is the sample before, from each side.
@@ -32,60 +33,22 @@ pub struct Junction {
     pub advance: u32,
     pub filters: Filters,
     pub last: Pair,
-    pub waiting: Waiting,
-}
-
-// What an opening or a move returns: refusal is 0 for success.
-#[derive(Clone, Copy)]
-pub struct Answer {
-    pub refusal: u32,
-    pub junction: Junction,
-}
-
-// A sample that goes out.
-#[derive(Clone, Copy)]
-pub struct Out {
-    pub n: i32,
-}
-
-// What a sample returns: what goes to the right, and to the left.
-#[derive(Clone, Copy)]
-pub struct Step {
-    pub refusal: u32,
-    pub right: Out,
-    pub left: Out,
-    pub junction: Junction,
+    pub waiting: Option<Move>,
 }
 
 // j with the filters of a move in force once they have taken as many inputs as the advance; else the move waits.
-pub fn settle(j: Junction, w: Waiting) -> Junction
+pub fn settle(j: Junction, w: Option<Move>) -> Junction
     requires { Valid j × Counts j.advance w }
     ensures { (junction_of result ≡ Settle (junction_of j) (waiting_of w)) × Valid result }
 {
     match w {
-        Waiting::Idle => j,
-        Waiting::Move(d, taken, f) => {
-            let r = j.r;
-            let x = j.last;
-            if taken == j.advance {
-                return Junction {
-                    r: r,
-                    d: d,
-                    advance: j.advance,
-                    filters: f,
-                    last: x,
-                    waiting: Waiting::Idle,
-                };
-            }
-            let g = j.filters;
-            Junction {
-                r: r,
-                d: j.d,
-                advance: j.advance,
-                filters: g,
-                last: x,
-                waiting: w,
-            }
-        }
+        None => j,
+        Some(m) if m.taken == j.advance => Junction {
+            d: m.d,
+            filters: m.filters,
+            waiting: None,
+            ..j
+        },
+        Some(_) => Junction { waiting: w, ..j },
     }
 }

@@ -1,67 +1,65 @@
 -- `tube::open::open` meets its contract: a junction at rest, the one asked for or the refused one.
-use mathlib.Core.Path.{◌≡◌, sym, ◌∙◌}
+use mathlib.Core.Path.{◌≡◌, sym, ap, ◌∙◌}
 use native.Mathlib.Omega.{arith}
+use Prim.Native.Nat.{ℕ}
 use Rattle.refusal.specs.Limits.{Between, refusal}
+use Rattle.refusal.specs.Numbers.{code_of}
+use Rattle.refusal.proofs.Numbers.{refused-above}
 use Rattle.junction.specs.Calls.{Opening, open_limits}
 use Rattle.junction.specs.Refusals.{Areas}
 use Rattle.junction.proofs.Refusals.{refuses}
 use Rattle.junction.proofs.Outputs.{reflects}
 use Rattle.tube.proofs.Junctions.{open_refused, open_accepted}
 use Rattle.tube.proofs.open.open.Goals as goal
-use Rattle.tube.proofs.open.open.Lts as lts
-use Rattle.tube.proofs.open.open.Reads as reads
-use Rattle.tube.proofs.open.open.Tie as tie
 
-abbrev asked : (lts.Start tie.the-claims reads.Pre reads.Post) → Opening
-asked s = let a = s.args in record { left = a.left; right = a.right; d = a.d; Na = a.advance }
+abbrev asked : ℕ → ℕ → ℕ → ℕ → Opening
+asked left right d Na = record { left = left; right = right; d = d; Na = Na }
 
-taken : (c : goal.Else-code-ne0) → refusal (open_limits (asked c.before.before)) ≡ 0
-taken c = sym c.open_refusal-code.ensures ∙ c.if-code-ne0.false
+abbrev Within : Opening → Type 0
+Within o = Areas o.left o.right × (Between 2049 o.d 6143 × Between 0 o.Na 64)
 
-abbrev Within : goal.Else-code-ne0 → Type 0
-Within c =
-    let o = asked c.before.before in
-    Areas o.left o.right × (Between 2049 o.d 6143 × Between 0 o.Na 64)
+within : (o : Opening) → refusal (open_limits o) ≡ 0 → Within o
+within o e = (refuses.opens o).accepted.0 e
 
-within : (c : goal.Else-code-ne0) → Within c
-within c = (refuses.opens (asked c.before.before)).accepted.0 (taken c)
+pub reflection-requires : goal.reflection-requires
+reflection-requires c =
+    let a = c.args in
+    (within (asked a.left a.right a.d a.advance) (sym c.refused-answer.ensures ∙ ap code_of c.in-Ok.is)).0
 
-pub resting-j-requires : goal.resting-j-requires
-resting-j-requires c =
-    let a = reflects.small 1 1 (record { least = omega arith; most = omega arith }, record { least = omega arith; most = omega arith }) in
+pub resting-junction-requires : goal.resting-junction-requires
+resting-junction-requires c =
+    let a = c.args in
+    let o = asked a.left a.right a.d a.advance in
+    let w = within o (sym c.refused-answer.ensures ∙ ap code_of c.in-Ok.is) in
     record {
-      small = rw c.reflection.ensures a;
-      delay = record { least = omega arith; most = omega arith };
-      advance_small = omega arith;
-    }
-
-pub returns-then-code-ne0 : goal.returns-then-code-ne0
-returns-then-code-ne0 c =
-    let b = c.before.before in
-    let o = asked b.before.before in
-    let e = c.resting-j.ensures in
-    let k = rw c.reflection.ensures at e.1 in (
-      rw k (open_refused o b.open_refusal-code.result b.open_refusal-code.ensures b.if-code-ne0.true),
-      e.0,
-    )
-
-pub reflection-requires-2 : goal.reflection-requires-2
-reflection-requires-2 c = (within c).0
-
-pub resting-j-requires-2 : goal.resting-j-requires-2
-resting-j-requires-2 c =
-    let b = c.before in
-    let w = within b in
-    let s = asked b.before.before in
-    record {
-      small = rw c.reflection-2.ensures (reflects.small s.left s.right w.0);
+      small = rw c.reflection.ensures (reflects.small o.left o.right w.0);
       delay = w.1.0;
       advance_small = w.1.1.most;
     }
 
-pub returns : goal.returns
-returns c =
-    let b = c.before.before in
-    let e = c.resting-j-2.ensures in
-    let k = rw c.reflection-2.ensures at e.1 in
-    (rw k (open_accepted (asked b.before.before) (taken b)), e.0)
+pub resting-junction-requires-in-Err : goal.resting-junction-requires-in-Err
+resting-junction-requires-in-Err c =
+    let a = reflects.small 1 1 (record { least = omega arith; most = omega arith }, record { least = omega arith; most = omega arith }) in
+    record {
+      small = rw c.reflection-in-Err.ensures a;
+      delay = record { least = omega arith; most = omega arith };
+      advance_small = omega arith;
+    }
+
+pub returns-in-Ok : goal.returns-in-Ok
+returns-in-Ok c =
+    let a = c.args in
+    let e = c.resting-junction.ensures in
+    let k = rw c.reflection.ensures at e.1 in
+    let z = sym c.refused-answer.ensures ∙ ap code_of c.in-Ok.is in
+    (rw (c.in-Ok.is, k) (open_accepted (asked a.left a.right a.d a.advance) z), e.0)
+
+pub returns-in-Err : goal.returns-in-Err
+returns-in-Err c =
+    let a = c.args in
+    let o = asked a.left a.right a.d a.advance in
+    let e = c.resting-junction-in-Err.ensures in
+    let k = rw c.reflection-in-Err.ensures at e.1 in
+    let n = code_of c.refused-answer.result in
+    let above : n ≡ 0 → ⊥ = λ z. refused-above c.in-Err.field-0 (sym (ap code_of c.in-Err.is) ∙ z) in
+    (rw k (open_refused o n c.refused-answer.ensures above), e.0)

@@ -1,23 +1,32 @@
 -- `tube::sample::feed` meets its contract: what waits has taken one input more.
-use mathlib.Core.Path.{refl}
+use mathlib.Core.Path.{◌≡◌}
 use native.Mathlib.Omega.{arith}
 use native.Mathlib.Numerals.{add-one}
+use Rattle.std.proofs.Common.{rules}
+use Rattle.std.specs.Prelude.{Some}
+use Rattle.tube.specs.Valid.{Early}
 use Rattle.tube.proofs.Tuned.{feeds, next_tunes, next-states}
+use Rattle.tube.proofs.sample.feed.Goals.{In_ok-m}
 use Rattle.tube.proofs.sample.feed.Goals as goal
 
+module _ (c : In_ok-m) where
+  is : c.args.w ≡ Some c.in_ok-m.m
+  is = search rules
+
+  waits : let m = c.in_ok-m.m in Early c.args.advance m.d m.taken m.filters
+  waits = rw is at c.requires.1
+
 pub overflow_add-result : goal.overflow_add-result
-overflow_add-result c = let w = rw c.in-Move.is at c.requires.1 in omega (arith, w.early, c.requires.0)
+overflow_add-result c = omega (arith, (waits (goal.at.overflow_add-result c).In_ok-m).early, c.requires.0)
 
 pub feed_both-requires : goal.feed_both-requires
-feed_both-requires c = let w = rw c.in-Move.is at c.requires.1 in feeds w.filters c.requires.2
+feed_both-requires c = feeds (waits (goal.at.feed_both-requires c).In_ok-m).filters c.requires.2
 
-pub returns-in-Idle : goal.returns-in-Idle
-returns-in-Idle c = rw c.in-Idle.is (refl, tt)
-
-pub returns-in-Move : goal.returns-in-Move
-returns-in-Move c =
-    let w = rw c.in-Move.is at c.requires.1 in (
-      rw (c.in-Move.is, c.feed_both.ensures, next-states c.args.x w.filters, add-one c.in-Move.taken),
+pub returns : goal.returns
+returns c =
+    let b = (goal.at.returns c).In_ok-m in
+    let w = waits b in (
+      rw (is b, c.feed_both.ensures, next-states c.args.x w.filters, add-one c.in_ok-m.m.taken),
       record {
         filters = rw c.feed_both.ensures (next_tunes w.filters c.requires.2);
         counted = omega (arith, w.early);
