@@ -1,5 +1,6 @@
 -- A text put where a printer made room, what a call did in other words, and what is printed of each of a list.
-use Rattle.std.proofs.Common.{◌≡◌, ℕ, List, [], ◌∷◌, ◌++◌, refl, subst, ◌∙◌, arith}
+use Rattle.std.proofs.Common.{◌≡◌, ℕ, ◌+◌, ◌<◌, List, [], ◌∷◌, ◌++◌, length, get_or, take, refl, subst, ◌∙◌, arith}
+use Rattle.std.proofs.lemmas.List.{take_more}
 use Rattle.write.specs.Written.{Wrote}
 use Rattle.print.specs.declared.Printer.{Printer}
 use Rattle.print.specs.Printed.{MadeRoom, Printed, none}
@@ -32,3 +33,8 @@ module _ {X : Type 0} {One : X → List ℕ → ℕ → List ℕ → ℕ → Typ
     within = λ h. last.within;
     out = last.out ∙ before.out;
   }
+
+  -- the step of a loop that prints each of xs
+  pub each_step : {p q r : Printer} (xs : List X) (i : ℕ) (d : X) → i < length xs → PrintsEach One (take i xs) p q
+      → Prints (One (get_or xs i d)) q r → PrintsEach One (take (i + 1) xs) p r
+  each_step xs i d inside before last = rw (take_more xs i d inside) (each_more (get_or xs i d) before last)

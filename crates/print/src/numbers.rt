@@ -17,15 +17,6 @@ impl Printer {
         self.bytes(&text[..end]);
     }
 
-    // Each of some numbers.
-    pub fn numbers(&mut self, numbers: &[u32])
-        ensures { PrintsEach Number numbers.now self.old self.new }
-    {
-        for &n in numbers {
-            self.number(n);
-        }
-    }
-
     // A number with a sign, behind a blank.
     pub fn signed<X: Into<i64>>(&mut self, x: X)
         ensures { (y : ℤ) × X.converts x y × Prints (Signed y) self.old self.new }
@@ -45,15 +36,6 @@ impl Printer {
         self.bytes(&text[..end]);
     }
 
-    // Each of some samples.
-    pub fn samples(&mut self, samples: &[i32])
-        ensures { PrintsEach Signed samples.now self.old self.new }
-    {
-        for &x in samples {
-            self.signed(x);
-        }
-    }
-
     // A byte in two hexadecimal digits, behind a blank.
     pub fn hex(&mut self, b: u8)
         ensures { Prints (Hex b) self.old self.new }
@@ -61,6 +43,28 @@ impl Printer {
         let mut text = [b' '; 3];
         let end = write::hex(&mut text, 1, b);
         self.bytes(&text[..end]);
+    }
+}
+
+// Lists of them, one after the other.
+#[tactic(auto, using(crate::proofs::Printers::each_none, crate::proofs::Printers::each_step))]
+impl Printer {
+    // Each of some numbers.
+    pub fn numbers(&mut self, numbers: &[u32])
+        ensures { PrintsEach Number numbers.now self.old self.new }
+    {
+        for &n in numbers {
+            self.number(n);
+        }
+    }
+
+    // Each of some samples.
+    pub fn samples(&mut self, samples: &[i32])
+        ensures { PrintsEach Signed samples.now self.old self.new }
+    {
+        for &x in samples {
+            self.signed(x);
+        }
     }
 
     // Each of some bytes.
