@@ -9,8 +9,7 @@ use Rattle.form.specs.Loads.{Loaded, loads}
 use Rattle.form.proofs.Refusals.{refuses}
 use Rattle.form.proofs.Theorems.{round_trip}
 use Rattle.voice.specs.Struct.{state_of}
-use Rattle.store.specs.declared.Kept.{Kept}
-use Rattle.store.specs.Stores.{Stores}
+use Rattle.store.specs.Stores.{Kept, Stores}
 use Rattle.store.proofs.Heads.{storable}
 use Rattle.snapshot.specs.Resumes.{Resumes}
 

@@ -6,8 +6,7 @@ use Rattle.voice.specs.declared.Head.{Head}
 use Rattle.voice.specs.Called.{Answer}
 use Rattle.voice.specs.Struct.{state_of}
 use Rattle.voice.specs.Valid.{Valid}
-use Rattle.store.specs.declared.Kept.{Kept}
-use Rattle.store.specs.Stores.{Stores}
+use Rattle.store.specs.Stores.{Kept, Stores}
 use Rattle.load.specs.Loaded.{Loads}
 
 -- the head g and the line m are the voice of h and l

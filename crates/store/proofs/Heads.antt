@@ -29,7 +29,6 @@ use Rattle.voice.specs.declared.Head.{Head}
 use Rattle.voice.specs.declared.Waiting.{Waiting}
 use Rattle.voice.specs.declared.Waiting.TheVariants.{Idle, Prepared}
 use Rattle.store.specs.declared.Words.{Words}
-use Rattle.store.specs.Puts as Puts
 use Rattle.store.specs.Coming.{waiting_list, Quiet, WordsOf}
 
 pub quiet-state : (f : Filter) → Tuned f → loudest (entries f.state) ≤ 2 * M
@@ -58,12 +57,10 @@ same_parts s t u v w p q r = cc
 
 module _ (h : Head) (k : Fit h) (w : Words) where
   pub words_are :
-      (w.order ∷ w.length ∷ w.delay ∷ [])
-      ≡ (h.filter.tuning.order ∷ h.filter.tuning.length ∷ h.filter.tuning.delay ∷ [])
+      w.tuning ≡ (h.filter.tuning.order ∷ h.filter.tuning.length ∷ h.filter.tuning.delay ∷ [])
       → w.loss ≡ h.loss → w.advance ≡ h.advance → w.last ≡ word h.last.n
-      → (w.v1 ∷ w.v2 ∷ w.v3 ∷ []) ≡ map word (entries h.filter.state)
-      → Puts.change_of w ≡ waiting_list h.waiting
-      → (w.amplitude ∷ w.left ∷ w.noise ∷ []) ≡ (h.pluck.amplitude ∷ h.pluck.left ∷ h.pluck.noise ∷ [])
+      → w.state ≡ map word (entries h.filter.state) → w.change ≡ waiting_list h.waiting
+      → w.pluck ≡ (h.pluck.amplitude ∷ h.pluck.left ∷ h.pluck.noise ∷ [])
       → WordsOf h w
   unfolding parts
   words_are t g a y s c p l =

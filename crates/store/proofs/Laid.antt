@@ -2,9 +2,11 @@
 
 use mathlib.Core.Path.{◌≡◌, refl, sym, ap, ◌∙◌}
 use mathlib.Core.Bool.{Bool, true, false, not, cond, ◌&&◌}
-use mathlib.Core.List.{List, [], ◌∷◌, ◌++◌, append_assoc, append-nil, map, reverse}
+use mathlib.Core.List.{List, [], ◌∷◌, ◌++◌, map, reverse}
 use Prim.Native.Nat.{ℕ, suc, ◌+◌, ◌-◌, ◌*◌, ◌^◌, ◌%◌, ◌≤◌, ◌<◌}
 use native.Mathlib.Omega.{arith}
+use mir.Val.{bool_byte}
+use lib.Pointwise.{pointwise}
 use native.Mathlib.Numerals.{add-one}
 use lib.Dec.{eqb}
 use lib.IntN.{ℤ, pos, nat_abs}
@@ -17,50 +19,69 @@ use Rattle.line.specs.Ring.{ring}
 use Rattle.rule.specs.State.{silence}
 use Rattle.rule.proofs.Read.{get_d_within}
 use Rattle.octets.specs.Octets.{number, bytes, laid}
-use Rattle.octets.proofs.Laws.{laid_nil, laid_next, laid-length, number-bytes}
+use Rattle.octets.proofs.Laws.{bytes-length, laid_nil, laid_next, laid-length, number-bytes}
 use Rattle.octets.proofs.Theorems.{number_back}
 use Rattle.form.specs.Parts.{encoded, packed, size, map_byte, word, same, parts, chosen, refused_parts}
 use Rattle.form.proofs.Packing.{encoded-length}
 use Rattle.form.proofs.Numbers.{word-under, refused-line}
 use Rattle.form.proofs.Refusals.{turned_at}
-use Rattle.store.specs.Puts.{given, change_of, flags_of, Puts, Packs, Chooses}
+use Rattle.store.specs.Puts.{given, flags_of, Puts, Packs, Chooses}
 use Rattle.store.specs.declared.Words.{Words}
 use Rattle.store.specs.declared.Bits.{Bits}
 
 -- ---- bytes of numbers
-encoded-append : (ns ms : List ℕ) → encoded (ns ++ ms) ≡ encoded ns ++ encoded ms
-unfolding encoded
-encoded-append [] ms = refl
-encoded-append (n ∷ ns) ms =
-    ap (λ (l : List ℕ). bytes 4 n ++ l) (encoded-append ns ms)
-    ∙ sym (append_assoc (bytes 4 n) (encoded ns) (encoded ms))
-
-pub encoded-one : (n : ℕ) → encoded (n ∷ []) ≡ bytes 4 n
-unfolding encoded
-encoded-one n = append-nil (bytes 4 n)
-
-pub encoded-step : (ns : List ℕ) (i : ℕ) → i < length ns
+encoded-step : (ns : List ℕ) (i : ℕ) → i < length ns
     → encoded (drop i ns) ≡ bytes 4 (get_or ns i 0) ++ encoded (drop (i + 1) ns)
 unfolding encoded
 encoded-step ns i h = rw (drop-cons ns i 0 h, add-one)
 
-pub encoded-end : (ns : List ℕ) (i : ℕ) → length ns ≤ i → encoded (drop i ns) ≡ []
+encoded-end : (ns : List ℕ) (i : ℕ) → length ns ≤ i → encoded (drop i ns) ≡ []
 unfolding encoded
 encoded-end ns i h = rw (drop_of_length-le ns {i = i} h)
 
 pub word-is : (x : ℤ) (r : ℕ) → nat_abs x ≤ 2 * M → bytes 4 r ≡ bytes 4 (word x) → r % 2 ^ 32 ≡ word x
 word-is x r h e = sym (number-bytes 4 r) ∙ ap number e ∙ number_back 4 (word x) (word-under x h)
 
--- ---- parts
-given-append : (on : Bool) (ns ms : List ℕ) → given on (ns ++ ms) ≡ given on ns ++ given on ms
-given-append true ns ms = encoded-append ns ms
-given-append false ns ms = refl
+-- ---- numbers put one after the other: i of the numbers ns stand in d from the place at on, and the rest is still to be
+-- laid from the place next on
+pub record Reached (before d : List ℕ) (at next i : ℕ) (ns : List ℕ) : Type 0 where
+  pub place : next ≡ at + 4 * i
+  pub rest : laid d next (encoded (drop i ns)) ≡ laid before at (encoded ns)
 
+pub begun : (d : List ℕ) (at next : ℕ) (ns : List ℕ) → next ≡ at → Reached d d at next 0 ns
+begun d at next ns e = record {
+  place = omega (arith, e);
+  rest = ap (λ (k : ℕ). laid d k (encoded ns)) e;
+}
+
+pub one-more : {before d : List ℕ} {at next i : ℕ} {ns : List ℕ} (e : List ℕ) (w to : ℕ)
+    → Reached before d at next i ns → i < length ns → at + 4 * length ns ≤ length d → w ≡ get_or ns i 0
+    → e ≡ laid d next (bytes 4 w) → to ≡ next + 4 → Reached before e at to (i + 1) ns
+one-more {before} {d} {at} {next} {i} {ns} e w to r h l q s t =
+    let x = bytes 4 (get_or ns i 0) in
+    let n = bytes-length 4 (get_or ns i 0) in
+    let y = encoded (drop (i + 1) ns) in
+    record {
+      place = omega (arith, r.place, t);
+      rest =
+          ap (λ (k : List ℕ). laid k to y) (s ∙ ap (λ (k : ℕ). laid d next (bytes 4 k)) q)
+          ∙ laid_next d next x (omega (arith, n, r.place, h, l)) to y (omega (arith, n, t))
+          ∙ ap (λ (k : List ℕ). laid d next k) (sym (encoded-step ns i h))
+          ∙ r.rest;
+    }
+
+pub all-there : {before d : List ℕ} {at next i : ℕ} {ns : List ℕ} → Reached before d at next i ns
+    → length ns ≤ i → d ≡ laid before at (encoded ns)
+all-there {before} {d} {at} {next} {i} {ns} r h =
+    sym (ap (λ (k : List ℕ). laid d next k) (encoded-end ns i h) ∙ laid_nil d next) ∙ r.rest
+
+-- ---- parts
 pub given-all : (on : Bool) (ns : List ℕ) → on ≡ true → length (given on ns) ≡ 4 * length ns
 given-all on ns e = rw e (encoded-length ns)
 
-pub split : (on : Bool) (ns ms : List ℕ) → length (given on (ns ++ ms)) ≡ length (given on ns) + length (given on ms)
-split on ns ms = ap length (given-append on ns ms) ∙ length-append (given on ns) (given on ms)
+pub room-all : (at : ℕ) (on : Bool) (ns out : List ℕ) → on ≡ true → at + length (given on ns) ≤ length out
+    → at + 4 * length ns ≤ length out
+room-all at on ns out e h = omega (arith, given-all on ns e)
 
 pub none-put : (d : List ℕ) (at : ℕ) (on : Bool) (ns : List ℕ) → on ≡ false → Puts d d at on ns at
 none-put d at on ns e = rw e (record { there = sym (laid_nil d at); next = omega arith })
@@ -69,34 +90,9 @@ pub all-put : (d e : List ℕ) (at : ℕ) (on : Bool) (ns : List ℕ) (r : ℕ) 
     → r ≡ at + 4 * length ns → Puts d e at on ns r
 all-put d e at on ns r o i n = rw o (record { there = i; next = omega (arith, encoded-length ns) })
 
-module _ {d e f : List ℕ} {at p r : ℕ} {on : Bool} {ns ms : List ℕ}
-    (a : Puts d e at on ns p) (b : Puts e f p on ms r) where
-  pub then-put : at + length (given on ns) ≤ length d → Puts d f at on (ns ++ ms) r
-  then-put h =
-      let g = given-append on ns ms in
-      record {
-        there =
-            b.there
-            ∙ ap (λ (l : List ℕ). laid l p (given on ms)) a.there
-            ∙ laid_next d at (given on ns) h p (given on ms) a.next
-            ∙ ap (λ (l : List ℕ). laid d at l) (sym g);
-        next = omega (arith, a.next, b.next, split on ns ms);
-      }
-
 pub same-room : {d e : List ℕ} {at r : ℕ} {on : Bool} {ns : List ℕ} → Puts d e at on ns r
     → at + length (given on ns) ≤ length d → length e ≡ length d
 same-room {d} {at = at} {on = on} {ns = ns} a h = ap length a.there ∙ laid-length d at (given on ns) h
-
--- ---- a test that fails
-pub differs : (b r : Bool) → b ≡ false → true ≡ not (b && r)
-differs b r e = rw e
-
-pub agrees : (b r : Bool) → b ≡ true → not (b && r) ≡ not r
-agrees b r e = rw e
-
-pub alone : (b : Bool) → not (b && true) ≡ not b
-alone true = refl
-alone false = refl
 
 -- ---- the line's numbers, the oldest first
 abbrev pub oldest : ℕ → List ℤ → List ℕ
@@ -150,67 +146,68 @@ pub end-size : length (packed [] []) ≡ 0
 unfolding packed
 end-size = refl
 
-module _ {d e f : List ℕ} {at p r : ℕ} {on : Bool} {ns : List ℕ} {bs : List Bool} {ps : List (List ℕ)}
-    (a : Puts d e at on ns p) (b : Packs e f p bs ps r) where
-  pub then_pack : at + length (given on ns) ≤ length d → Packs d f at (on ∷ bs) (ns ∷ ps) r
-  then_pack h =
-      record {
-        there =
-            b.there
-            ∙ ap (λ (l : List ℕ). laid l p (packed bs ps)) a.there
-            ∙ laid_next d at (given on ns) h p (packed bs ps) a.next
-            ∙ ap (λ (l : List ℕ). laid d at l) (sym (packed-cons on bs ns ps));
-        next = omega (arith, a.next, b.next, pack_size on bs ns ps);
-      }
+-- there is room for the parts ps whose bit stands
+pub record Room (d : List ℕ) (at : ℕ) (bs : List Bool) (ps : List (List ℕ)) : Type 0 where
+  pub room : at + length (packed bs ps) ≤ length d
+
+module _ {d : List ℕ} {at : ℕ} {on : Bool} {ns : List ℕ} {bs : List Bool} {ps : List (List ℕ)}
+    (h : Room d at (on ∷ bs) (ns ∷ ps)) where
+  -- for the first of them
+  pub for-one : at + length (given on ns) ≤ length d
+  for-one = omega (arith, h.room, pack_size on bs ns ps)
+
+  module _ {e : List ℕ} {p : ℕ} (a : Puts d e at on ns p) where
+    -- and once it is there, for the others
+    pub for-more : Room e p bs ps
+    for-more = record {
+      room = omega (arith, h.room, pack_size on bs ns ps, same-room a for-one, a.next);
+    }
+
+    pub then-pack : {f : List ℕ} {r : ℕ} → Packs e f p bs ps r → Packs d f at (on ∷ bs) (ns ∷ ps) r
+    then-pack {f} {r} b =
+        record {
+          there =
+              b.there
+              ∙ ap (λ (l : List ℕ). laid l p (packed bs ps)) a.there
+              ∙ laid_next d at (given on ns) for-one p (packed bs ps) a.next
+              ∙ ap (λ (l : List ℕ). laid d at l) (sym (packed-cons on bs ns ps));
+          next = omega (arith, a.next, b.next, pack_size on bs ns ps);
+        }
 
 -- ---- which parts differ
-pub three-differ : (a b c r : Bool) → not (a && (b && (c && true))) ≡ true → not (a && (b && (c && r))) ≡ true
-three-differ true true true r e = let z : ◌≡◌ {A = ℕ} 0 1 = cc in absurd (omega arith)
-three-differ true true false r e = refl
-three-differ true false c r e = refl
-three-differ false b c r e = refl
+same-words : (p u : List ℕ) → pointwise eqb p u ≡ same p u
+same-words [] [] = refl
+same-words [] (b ∷ u) = refl
+same-words (a ∷ p) [] = refl
+same-words (a ∷ p) (b ∷ u) = ap (λ (r : Bool). eqb a b && r) (same-words p u)
 
-pub three_agree : (a b c r : Bool) → not (a && (b && (c && true))) ≡ false → not (a && (b && (c && r))) ≡ not r
-three_agree true true true r e = refl
-three_agree true true false r e = let z : ◌≡◌ {A = ℕ} 0 1 = cc in absurd (omega arith)
-three_agree true false c r e = let z : ◌≡◌ {A = ℕ} 0 1 = cc in absurd (omega arith)
-three_agree false b c r e = let z : ◌≡◌ {A = ℕ} 0 1 = cc in absurd (omega arith)
+alone : (b : Bool) → not (b && true) ≡ not b
+alone true = refl
+alone false = refl
 
 pub choose : (w : Words) (sounds : Bool) (b : Bits)
-    → b.tuning ≡ not (same (w.order ∷ w.length ∷ w.delay ∷ []) (1 ∷ 1 ∷ 4096 ∷ []))
+    → b.tuning ≡ not (pointwise eqb w.tuning (1 ∷ 1 ∷ 4096 ∷ []))
     → b.loss ≡ not (eqb w.loss 0) → b.advance ≡ not (eqb w.advance 0) → b.last ≡ not (eqb w.last 0)
-    → b.state ≡ not (same (w.v1 ∷ w.v2 ∷ w.v3 ∷ []) (0 ∷ 0 ∷ 0 ∷ []))
-    → b.change ≡ not (same (change_of w) (0 ∷ 0 ∷ 0 ∷ 0 ∷ 0 ∷ 0 ∷ 0 ∷ 0 ∷ []))
-    → b.pluck ≡ not (same (w.amplitude ∷ w.left ∷ w.noise ∷ []) (0 ∷ 0 ∷ 0 ∷ [])) → b.line ≡ sounds
+    → b.state ≡ not (pointwise eqb w.state (0 ∷ 0 ∷ 0 ∷ []))
+    → b.change ≡ not (pointwise eqb w.change (0 ∷ 0 ∷ 0 ∷ 0 ∷ 0 ∷ 0 ∷ 0 ∷ 0 ∷ []))
+    → b.pluck ≡ not (pointwise eqb w.pluck (0 ∷ 0 ∷ 0 ∷ [])) → b.line ≡ sounds
     → Chooses w sounds b
 unfolding chosen refused_parts parts stored
 choose w sounds b t l a y s c p n ws e =
     rw (
-      t,
+      t ∙ ap not (same-words w.tuning _),
       l ∙ sym (alone (eqb w.loss 0)),
       a ∙ sym (alone (eqb w.advance 0)),
       y ∙ sym (alone (eqb w.last 0)),
-      s,
-      c,
-      p,
+      s ∙ ap not (same-words w.state _),
+      c ∙ ap not (same-words w.change _),
+      p ∙ ap not (same-words w.pluck _),
       n ∙ e,
     )
 
-pub second_differs : (k a b c r : Bool) → k ≡ true → not (a && (b && (c && true))) ≡ true
-    → true ≡ not (k && (a && (b && (c && r))))
-second_differs k a b c r e f = rw e (sym (three-differ a b c r f))
-
-pub third_differs : (k a b c n r : Bool) → k ≡ true → not (a && (b && (c && true))) ≡ false → n ≡ false
-    → true ≡ not (k && (a && (b && (c && (n && r)))))
-third_differs k a b c n r e f g = rw (e, g) (sym (three_agree a b c false f))
-
-pub last_differs : (k a b c n r : Bool) → k ≡ true → not (a && (b && (c && true))) ≡ false → n ≡ true
-    → not r ≡ not (k && (a && (b && (c && (n && r)))))
-last_differs k a b c n r e f g = rw (e, g) (sym (three_agree a b c r f))
-
 -- ---- the length and the bit map
 size-part : (b : Bool) (bs : List Bool) (u : List ℕ) (us : List (List ℕ)) (n : ℕ) → 4 * length u ≡ n
-    → size (b ∷ bs) (u ∷ us) ≡ cond b n 0 + size bs us
+    → size (b ∷ bs) (u ∷ us) ≡ n * bool_byte b + size bs us
 unfolding size
 size-part true bs u us n e = omega arith
 size-part false bs u us n e = omega arith
@@ -223,57 +220,37 @@ line-size : 4 * length (map word (reverse silence)) ≡ 8448
 line-size = omega (arith, refused-line)
 
 pub size_is : (b : Bits) → size (flags_of b) refused_parts
-    ≡ cond b.tuning 12 0 + (cond b.loss 4 0 + (cond b.advance 4 0 + (cond b.last 4 0
-    + (cond b.state 12 0 + (cond b.change 32 0 + (cond b.pluck 12 0 + cond b.line 8448 0))))))
+    ≡ 12 * bool_byte b.tuning + (4 * bool_byte b.loss + (4 * bool_byte b.advance + (4 * bool_byte b.last
+    + (12 * bool_byte b.state + (32 * bool_byte b.change + (12 * bool_byte b.pluck + 8448 * bool_byte b.line))))))
 unfolding refused_parts parts
 size_is b =
     size-part b.tuning _ _ _ 12 refl
-    ∙ ap (λ (n : ℕ). cond b.tuning 12 0 + n) (size-part b.loss _ _ _ 4 refl
-    ∙ ap (λ (n : ℕ). cond b.loss 4 0 + n) (size-part b.advance _ _ _ 4 refl
-    ∙ ap (λ (n : ℕ). cond b.advance 4 0 + n) (size-part b.last _ _ _ 4 refl
-    ∙ ap (λ (n : ℕ). cond b.last 4 0 + n) (size-part b.state _ _ _ 12 refl
-    ∙ ap (λ (n : ℕ). cond b.state 12 0 + n) (size-part b.change _ _ _ 32 refl
-    ∙ ap (λ (n : ℕ). cond b.change 32 0 + n) (size-part b.pluck _ _ _ 12 refl
-    ∙ ap (λ (n : ℕ). cond b.pluck 12 0 + n) (size-part b.line _ _ _ 8448 line-size
-    ∙ ap (λ (n : ℕ). cond b.line 8448 0 + n) size-end ∙ omega arith)))))))
+    ∙ ap (λ (n : ℕ). 12 * bool_byte b.tuning + n) (size-part b.loss _ _ _ 4 refl
+    ∙ ap (λ (n : ℕ). 4 * bool_byte b.loss + n) (size-part b.advance _ _ _ 4 refl
+    ∙ ap (λ (n : ℕ). 4 * bool_byte b.advance + n) (size-part b.last _ _ _ 4 refl
+    ∙ ap (λ (n : ℕ). 4 * bool_byte b.last + n) (size-part b.state _ _ _ 12 refl
+    ∙ ap (λ (n : ℕ). 12 * bool_byte b.state + n) (size-part b.change _ _ _ 32 refl
+    ∙ ap (λ (n : ℕ). 32 * bool_byte b.change + n) (size-part b.pluck _ _ _ 12 refl
+    ∙ ap (λ (n : ℕ). 12 * bool_byte b.pluck + n) (size-part b.line _ _ _ 8448 line-size
+    ∙ ap (λ (n : ℕ). 8448 * bool_byte b.line + n) size-end ∙ omega arith)))))))
 
-twofold : (b : Bool) (n : ℕ) → cond b (2 * n) 0 ≡ 2 * cond b n 0
-twofold true n = refl
-twofold false n = refl
+weight : (b : Bool) → cond b 1 0 ≡ bool_byte b
+weight true = refl
+weight false = refl
 
 pub map_is : (b : Bits) → map_byte (flags_of b)
-    ≡ cond b.tuning 1 0 + (cond b.loss 2 0 + (cond b.advance 4 0 + (cond b.last 8 0
-    + (cond b.state 16 0 + (cond b.change 32 0 + (cond b.pluck 64 0 + cond b.line 128 0))))))
+    ≡ bool_byte b.tuning + 2 * bool_byte b.loss + 4 * bool_byte b.advance + 8 * bool_byte b.last
+    + 16 * bool_byte b.state + 32 * bool_byte b.change + 64 * bool_byte b.pluck + 128 * bool_byte b.line
 unfolding map_byte
 map_is b =
     omega (
       arith,
-      twofold b.loss 1,
-      twofold b.advance 1,
-      twofold b.advance 2,
-      twofold b.last 1,
-      twofold b.last 2,
-      twofold b.last 4,
-      twofold b.state 1,
-      twofold b.state 2,
-      twofold b.state 4,
-      twofold b.state 8,
-      twofold b.change 1,
-      twofold b.change 2,
-      twofold b.change 4,
-      twofold b.change 8,
-      twofold b.change 16,
-      twofold b.pluck 1,
-      twofold b.pluck 2,
-      twofold b.pluck 4,
-      twofold b.pluck 8,
-      twofold b.pluck 16,
-      twofold b.pluck 32,
-      twofold b.line 1,
-      twofold b.line 2,
-      twofold b.line 4,
-      twofold b.line 8,
-      twofold b.line 16,
-      twofold b.line 32,
-      twofold b.line 64,
+      weight b.tuning,
+      weight b.loss,
+      weight b.advance,
+      weight b.last,
+      weight b.state,
+      weight b.change,
+      weight b.pluck,
+      weight b.line,
     )

@@ -10,13 +10,8 @@ use Rattle.voice.specs.Struct.{kind_of, state_of}
 use Rattle.voice.specs.declared.Waiting.{Waiting}
 use Rattle.voice.specs.declared.Waiting.TheVariants.{Idle, Prepared}
 use Rattle.voice.specs.declared.Head.{Head}
-use Rattle.store.specs.declared.Coming.{Coming}
 use Rattle.store.specs.declared.Words.{Words}
 use Rattle.store.specs.Puts.{parts_of}
-
-abbrev pub coming_of : Coming → List ℕ
-coming_of c =
-    c.kind ∷ c.order ∷ c.length ∷ c.delay ∷ c.taken ∷ c.v1 ∷ c.v2 ∷ c.v3 ∷ []
 
 abbrev pub waiting_list : Waiting → List ℕ
 waiting_list Idle = 0 ∷ 0 ∷ 0 ∷ 0 ∷ 0 ∷ 0 ∷ 0 ∷ 0 ∷ []

@@ -16,22 +16,10 @@ pub record Puts (old new : List ℕ) (at : ℕ) (on : Bool) (ns : List ℕ) (r :
   pub there : new ≡ laid old at (given on ns)
   pub next : r ≡ at + length (given on ns)
 
--- a waiting change
-abbrev pub change_of : Words → List ℕ
-change_of w = w.kind ∷ w.order2 ∷ w.length2 ∷ w.delay2 ∷ w.taken ∷ w.w1 ∷ w.w2 ∷ w.w3 ∷ []
-
 -- the seven parts of a head, and with the line's numbers all eight
 abbrev pub parts_of : Words → List ℕ → List (List ℕ)
 parts_of w line =
-    (w.order ∷ w.length ∷ w.delay ∷ [])
-    ∷ (w.loss ∷ [])
-    ∷ (w.advance ∷ [])
-    ∷ (w.last ∷ [])
-    ∷ (w.v1 ∷ w.v2 ∷ w.v3 ∷ [])
-    ∷ change_of w
-    ∷ (w.amplitude ∷ w.left ∷ w.noise ∷ [])
-    ∷ line
-    ∷ []
+    w.tuning ∷ (w.loss ∷ []) ∷ (w.advance ∷ []) ∷ (w.last ∷ []) ∷ w.state ∷ w.change ∷ w.pluck ∷ line ∷ []
 
 abbrev pub flags_of : Bits → List Bool
 flags_of b = b.tuning ∷ b.loss ∷ b.advance ∷ b.last ∷ b.state ∷ b.change ∷ b.pluck ∷ b.line ∷ []

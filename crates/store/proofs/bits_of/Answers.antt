@@ -1,10 +1,9 @@
+-- `store::bits_of` meets its contract: a part by its numbers.
 use mathlib.Core.Path.{refl}
 use Rattle.store.proofs.Laid.{choose}
 use Rattle.store.proofs.bits_of.Goals as goal
 
--- src/lib.rt:159:1
 pub returns : goal.returns
 returns c =
-    let s = c.before.before.before.before.before.before.before in
-    choose s.args.w s.args.sounds _ c.differ-t.ensures refl refl refl c.differ-s.ensures
-    c.changes-c.ensures c.differ-p.ensures refl
+    choose c.args.w c.args.sounds _ c.ne.ensures refl refl refl c.ne-2.ensures c.ne-3.ensures c.ne-4.ensures
+    refl
