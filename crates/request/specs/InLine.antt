@@ -1,8 +1,9 @@
--- A request's counts: it lends at most 32,768 samples or bytes, and its list starts within the line's n bytes.
--- Definitions alone. Assumes nothing.
-use Rattle.std.specs.Prelude.{ℕ, ◌≤◌}
+-- A request's counts: it lends at most 32,768 samples or bytes, and its list stands at the end of the line s.
+-- Definitions alone.
+use Rattle.std.specs.Prelude.{List, ℕ, ◌≤◌}
 use Rattle.request.specs.declared.Request.{Request}
+use Rattle.request.specs.Rest.{Rest}
 
-pub record InLine (n : ℕ) (r : Request) : Type 0 where
+pub record InLine (s : List ℕ) (r : Request) : Type 0 where
   pub places : r.places ≤ 32768
-  pub list : r.list ≤ n
+  pub list : Rest s r.list.now

@@ -1,2 +1,4 @@
 pub mod InLine
+pub mod Kinds
+pub mod Rest
 pub mod Table

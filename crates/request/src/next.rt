@@ -1,74 +1,66 @@
-// The next word of a text as a number, a sample or a byte: ok is whether it spells one, none is whether there
-// is no word, and end is the place after it.
-ghost use Rattle.std.specs.Prelude.{◌≤◌, length};
+// The next word of a text, and what it spells: a number, a sample or a byte.
+ghost use Rattle.std.specs.Prelude.{◌≡◌, List, ℕ, Option, IfSome, MatchOption, true};
+ghost use Rattle.text.specs.Numbers.{number_of, sample_of, byte_of};
+ghost use Rattle.request.specs.Rest.{Rest, Split, Spelt, Misspelt, Ended};
 
 use text::byte::read_byte;
 use text::{read_number, read_sample};
 use words::word;
 
-#[derive(Clone, Copy)]
-pub struct Number {
-    pub ok: bool,
-    pub value: u32,
-    pub end: usize,
+// What a word can spell.
+pub trait Spelled: Copy {
+    ghost spells: { List ℕ → Option Self };
+
+    fn read(word: &[u8]) -> Option<Self>
+        ensures { result ≡ spells word.now };
 }
 
-#[derive(Clone, Copy)]
-pub struct Sample {
-    pub ok: bool,
-    pub none: bool,
-    pub value: i32,
-    pub end: usize,
-}
+impl Spelled for u32 {
+    ghost spells = { number_of };
 
-#[derive(Clone, Copy)]
-pub struct Byte {
-    pub ok: bool,
-    pub none: bool,
-    pub value: u8,
-    pub end: usize,
-}
-
-pub fn next_number(s: &[u8]) -> Number
-    ensures { result.end ≤ length s.now }
-{
-    let w = word(s);
-    let a = w.start;
-    let e = w.end;
-    let r = read_number(&s[a..e]);
-    Number {
-        ok: r.ok,
-        value: r.value,
-        end: e,
+    fn read(word: &[u8]) -> Option<Self> {
+        read_number(word)
     }
 }
 
-pub fn next_sample(s: &[u8]) -> Sample
-    ensures { result.end ≤ length s.now }
-{
-    let w = word(s);
-    let a = w.start;
-    let e = w.end;
-    let r = read_sample(&s[a..e]);
-    Sample {
-        ok: r.ok,
-        none: a == e,
-        value: r.value,
-        end: e,
+impl Spelled for i32 {
+    ghost spells = { sample_of };
+
+    fn read(word: &[u8]) -> Option<Self> {
+        read_sample(word)
     }
 }
 
-pub fn next_byte(s: &[u8]) -> Byte
-    ensures { result.end ≤ length s.now }
+impl Spelled for u8 {
+    ghost spells = { byte_of };
+
+    fn read(word: &[u8]) -> Option<Self> {
+        read_byte(word)
+    }
+}
+
+// The first word of a text, empty where there is none, and what follows it.
+pub fn split_word<'a>(s: &'a [u8]) -> (&'a [u8], &'a [u8])
+    ensures split { Split s.now result.0.now result.1.now }
+    ensures rest { Rest s.now result.1.now }
 {
     let w = word(s);
-    let a = w.start;
-    let e = w.end;
-    let r = read_byte(&s[a..e]);
-    Byte {
-        ok: r.ok,
-        none: a == e,
-        value: r.value,
-        end: e,
-    }
+    (&s[w.start..w.end], &s[w.end..])
+}
+
+// What the first word spells, and what follows it.
+pub fn next<'a, T: Spelled>(s: &'a [u8]) -> Option<(T, &'a [u8])>
+    ensures spelt { MatchOption result (Misspelt T.spells s.now) (λ r. Spelt T.spells s.now r.0 r.1.now) }
+    ensures rest { IfSome result (λ r. Rest s.now r.1.now) }
+{
+    let (word, rest) = split_word(s);
+    Some((T::read(word)?, rest))
+}
+
+// No word is left.
+pub fn ended(s: &[u8]) -> bool
+    ensures { result ≡ true → Ended s.now }
+{
+    let (word, _) = split_word(s);
+    word.is_empty()
 }

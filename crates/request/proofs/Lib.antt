@@ -1,0 +1,3 @@
+pub mod Calls
+mod Lines
+pub mod Words

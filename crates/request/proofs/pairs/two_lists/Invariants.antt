@@ -1,0 +1,9 @@
+-- `request::pairs::two_lists` meets its contract: each word ends within the text.
+use Rattle.std.proofs.Common.{length, ◌-◌, ◌≤◌}
+use Rattle.request.proofs.pairs.two_lists.Given as goal
+
+abbrev pub invariant-loop-at : goal.invariant-loop-at
+invariant-loop-at l = l.at ≤ length l.s
+
+abbrev pub decreases-loop-at : goal.decreases-loop-at
+decreases-loop-at l = length l.s - l.at
