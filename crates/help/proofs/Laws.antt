@@ -1,36 +1,18 @@
--- What is said under another name of the same text, and one call more in a list of them.
--- Assumes nothing.
-use mathlib.Core.Path.{◌≡◌, refl, sym, subst}
-use mathlib.Core.List.{List, [], ◌∷◌, ◌++◌}
-use Prim.Native.Nat.{ℕ, zero, suc, ◌+◌, ◌-◌, ◌≤◌}
-use native.Mathlib.Omega.{arith}
-use borrow.Author.Tests.{eq-eqb, ne_eqb}
-use Rattle.words.specs.Pieces.{ascii}
-use Rattle.print.specs.Printed.{Printed}
-use Rattle.print.proofs.Texts.{another}
-use Rattle.help.specs.Said.{Said, behind, Listed, Rows, up_to}
+-- One call more in a list of them, and the kind that a line's first word names.
+use Rattle.std.proofs.Common.{◌≡◌, sym, subst, ◌∙◌, ℕ, suc, ◌+◌, List, [], ◌∷◌, ◌++◌, arith}
+use Rattle.print.specs.declared.Printer.{Printer}
+use Rattle.print.specs.Printer.{Prints, PrintsEach}
+use Rattle.print.proofs.Printers.{each_more}
+use Rattle.request.specs.Rest.{Split, at}
+use Rattle.request.specs.Table.{table, Named}
+use Rattle.help.specs.Said.{Listed, up_to, Wrong, Error, of}
 
-module _ {b d : List ℕ} {at r : ℕ} where
-  pub same_text : {t u : List ℕ} → t ≡ u → Printed t b at d r → Printed u b at d r
-  same_text e p = subst (λ (l : List ℕ). Printed l b at d r) e p
+pub rows_more : (p q r : Printer) (i kind : ℕ) → kind ≡ suc i → PrintsEach Listed (up_to i) p q
+    → Prints (Listed kind) q r → PrintsEach Listed (up_to (i + 1)) p r
+rows_more p q r i kind h before last =
+    let m : i + 1 ≡ suc i = omega arith in
+    rw m (subst (λ (j : ℕ). PrintsEach Listed (up_to i ++ j ∷ []) p r) h (each_more kind before last))
 
-  pub first-listed : (kind : ℕ) → kind ≡ 1 → Said (ascii " ") kind b at d r → Listed kind b at d r
-  first-listed kind e s = subst (λ (l : List ℕ). Said l kind b at d r) (rw (eq-eqb kind 1 e)) s
-
-  pub next-listed : (kind : ℕ) → (kind ≡ 1 → ⊥) → Said (ascii "; ") kind b at d r → Listed kind b at d r
-  next-listed kind e s = subst (λ (l : List ℕ). Said l kind b at d r) (rw (ne_eqb kind 1 e)) s
-
-more : (kind : ℕ) → 1 ≤ kind → up_to (kind - 1) ++ kind ∷ [] ≡ up_to (kind + 1 - 1)
-more zero h = absurd (omega arith)
-more (suc n) h =
-    let e : suc n - 1 ≡ n = omega arith in
-    let f : suc n + 1 - 1 ≡ suc n = omega arith in
-    rw (e, f)
-
-pub rows_more : {b c d : List ℕ} {at k r : ℕ} (kind : ℕ) → 1 ≤ kind → Rows (up_to (kind - 1)) b at c k
-    → Listed kind c k d r → Rows (up_to (kind + 1 - 1)) b at d r
-rows_more {b} {c} {d} {at} {k} {r} kind h p q =
-    subst (λ (l : List ℕ). Rows l b at d r) (more kind h) (another kind p q)
-
-pub rows_at : {b d : List ℕ} {at r j k : ℕ} → j ≡ k → Rows (up_to (j - 1)) b at d r → Rows (up_to (k - 1)) b at d r
-rows_at {b} {d} {at} {r} e p = subst (λ (n : ℕ). Rows (up_to (n - 1)) b at d r) e p
+pub of_split : {s w t b d : List ℕ} {index i r kind : ℕ} → Split s w t → Named table w kind → Wrong index kind b i d r
+    → Error s index b i d r
+of_split {kind} (at a e first word rest) n p = of first (subst (λ (l : List ℕ). Named table l kind) word n) p

@@ -2,77 +2,52 @@
 // Contracts cite specs/Said.antt.
 #![tactic(auto)]
 
-ghost use Rattle.std.specs.Prelude.{◌≡◌, ◌-◌, ◌≤◌};
-ghost use Rattle.help.specs.Said.{Said, Wrong, Error, Listed, Rows, up_to};
+ghost use Rattle.print.specs.Printer.{Prints, PrintsEach};
+ghost use Rattle.request.specs.Kinds.{number_of};
+ghost use Rattle.help.specs.Said.{Said, Wrong, Error, Listed, up_to};
 
-use print::{Out, bytes, number};
-use request::kinds::{ERROR, OPEN, named};
-use request::table::TABLE;
-use words::pieces::piece;
-use words::word;
-
-// The place of a kind's row in the table.
-fn place(kind: u32) -> usize
-    ensures { result ≡ kind - 1 }
-{
-    if kind == 0 {
-        return 0;
-    }
-    (kind - 1) as usize
-}
+use print::Printer;
+use request::kinds::{CALLS, Kind, named};
+use request::next::split_word;
 
 // What a kind's call takes, behind a text.
-fn said(out: Out, buffer: &mut [u8; 4096], at: usize, text: &[u8], kind: u32) -> usize
-    ensures upper_bound { result ≤ 4097 }
-    ensures said { Said text.now kind buffer.old at buffer.new result }
+fn said(out: &mut Printer, text: &[u8], kind: Kind)
+    ensures { Prints (Said text.now (number_of kind)) out.old out.new }
 {
-    let a = bytes(out, buffer, at, text);
-    bytes(out, buffer, a, piece(&TABLE, b'\n', place(kind)))
+    out.bytes(text);
+    out.bytes(kind.row());
 }
 
 // The answer to a wrong line: `error`, its number, and what its call takes.
-pub fn wrong(out: Out, buffer: &mut [u8; 4096], at: usize, index: u64, kind: u32) -> usize
-    ensures upper_bound { result ≤ 4097 }
-    ensures wrong { Wrong index kind buffer.old at buffer.new result }
+pub fn wrong(out: &mut Printer, index: u64, kind: Kind)
+    ensures { Prints (Wrong index (number_of kind)) out.old out.new }
 {
-    let a = bytes(out, buffer, at, b"error");
-    let b = number(out, buffer, a, index);
-    said(out, buffer, b, b" ", kind)
+    out.bytes(b"error");
+    out.number(index);
+    said(out, b" ", kind);
 }
 
 // The answer to a wrong line, by the name that it starts with.
-pub fn error(out: Out, buffer: &mut [u8; 4096], at: usize, s: &[u8], index: u64) -> usize
-    ensures upper_bound { result ≤ 4097 }
-    ensures error { Error s.now index buffer.old at buffer.new result }
+pub fn error(out: &mut Printer, s: &[u8], index: u64)
+    ensures { Prints (Error s.now index) out.old out.new }
 {
-    let w = word(s);
-    let a = w.start;
-    let e = w.end;
-    let kind = named(&s[a..e]);
-    wrong(out, buffer, at, index, kind)
+    let (name, _) = split_word(s);
+    wrong(out, index, named(name));
 }
 
 // One of the calls, among others.
-fn listed(out: Out, buffer: &mut [u8; 4096], at: usize, kind: u32) -> usize
-    ensures upper_bound { result ≤ 4097 }
-    ensures listed { Listed kind buffer.old at buffer.new result }
+fn listed(out: &mut Printer, kind: Kind)
+    ensures { Prints (Listed (number_of kind)) out.old out.new }
 {
-    if kind == OPEN {
-        return said(out, buffer, at, b" ", kind);
-    }
-    said(out, buffer, at, b"; ", kind)
+    let between: &[u8] = if kind == Kind::Open { b" " } else { b"; " };
+    said(out, between, kind);
 }
 
 // What each of the calls takes, one after the other.
-pub fn help(out: Out, buffer: &mut [u8; 4096], at: usize) -> usize
-    ensures upper_bound { at ≤ 4097 → result ≤ 4097 }
-    ensures rows { Rows (up_to 31) buffer.old at buffer.new result }
+pub fn help(out: &mut Printer)
+    ensures { PrintsEach Listed (up_to 31) out.old out.new }
 {
-    let mut a = at;
-    let mut kind = 1;
-    while kind < ERROR {
-        a = listed(out, buffer, a, kind);
-        kind = kind + 1;
+    for kind in CALLS {
+        listed(out, kind);
     }
-    a
 }

@@ -1,10 +1,8 @@
 -- `help::error` meets its contract: the first word is the one whose kind is said.
--- Assumes nothing.
-use Rattle.help.specs.Said.{of}
-use borrow.Author.Rules.{rules}
+use Rattle.help.proofs.Laws.{of_split}
 use Rattle.help.proofs.error.Goals as goal
 
 pub returns : goal.returns
 returns c =
     let w = c.wrong.ensures in
-    record { upper_bound = w.upper_bound; error = of c.word-w.ensures c.named-kind.ensures w.wrong }
+    record { does = of_split c.split_word.ensures.split c.named.ensures w.does; within = w.within; out = w.out }

@@ -1,16 +1,14 @@
 -- `help::said` meets its contract: the text, and then the row.
--- Assumes nothing.
-use mathlib.Core.Path.{ap, ◌∙◌}
-use Prim.Native.Nat.{ℕ}
-use Rattle.words.specs.Pieces.{piece}
-use Rattle.print.specs.Printed.{none, more}
-use Rattle.request.specs.Table.{table}
-use Rattle.help.proofs.Laws.{same_text}
-use borrow.Author.Rules.{rules}
+use Rattle.std.proofs.Common.{List, ℕ, subst, ◌∙◌}
+use Rattle.print.specs.Printer.{place}
+use Rattle.print.specs.Printed.{Printed, none, more}
 use Rattle.help.proofs.said.Goals as goal
 
 pub returns : goal.returns
 returns c =
-    let e = c.piece.ensures ∙ ap (λ (n : ℕ). piece 10 n table) c.place.ensures in
-    let b = c.bytes.ensures in
-    record { upper_bound = b.upper_bound; said = more c.bytes-a.ensures.printed (more (same_text e b.printed) none) }
+    let a = c.bytes.ensures in
+    let b = c.bytes-2.ensures in
+    let p = c.bytes.new.self in
+    let q = c.bytes-2.new.self in
+    let row = subst (λ (l : List ℕ). Printed l p.buffer (place p.held) q.buffer (place q.held)) c.row.ensures b.does in
+    record { does = more a.does (more row none); within = b.within; out = b.out ∙ a.out }

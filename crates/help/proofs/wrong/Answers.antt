@@ -1,13 +1,13 @@
 -- `help::wrong` meets its contract: each part is printed after the one before.
--- Assumes nothing.
+use Rattle.std.proofs.Common.{ℕ, subst, ◌∙◌}
+use Rattle.print.specs.Printed.{Number}
+use Rattle.print.specs.Printer.{Prints}
 use Rattle.help.specs.Said.{error}
-use borrow.Author.Rules.{rules}
 use Rattle.help.proofs.wrong.Goals as goal
 
 pub returns : goal.returns
 returns c =
+    let a = c.bytes.ensures in
+    let n = subst (λ (m : ℕ). Prints (Number m) c.bytes.new.self c.number.new.self) c.number.ensures.1 c.number.ensures.2 in
     let s = c.said.ensures in
-    record {
-      upper_bound = s.upper_bound;
-      wrong = error c.bytes-a.ensures.printed c.number-b.ensures.number s.said;
-    }
+    record { does = error a.does n.does s.does; within = s.within; out = s.out ∙ n.out ∙ a.out }
