@@ -9,7 +9,7 @@ use Rattle.rule.specs.History.{after, new}
 use Rattle.rule.specs.State.{fresh, puts}
 use Rattle.rule.specs.Click.{Figure}
 use Rattle.rule.specs.OwnFigure.{OwnFigure}
-use Rattle.list.specs.declared.Performed.{Performed}
+use Rattle.list.specs.Performed.{Performed}
 use Rattle.list.specs.Words.{calls, formed}
 use Rattle.list.specs.Performed.{performed, output_after, numbers_after}
 use Rattle.list.specs.Live.{Run, Equal}

@@ -14,7 +14,7 @@ use Rattle.rule.specs.State.{State, fresh, puts, numbers}
 use Rattle.rule.specs.Live.{without, announcing, living}
 use Rattle.rule.proofs.Numbers.{each-length}
 use Rattle.rule.proofs.Live.{lives}
-use Rattle.list.specs.declared.Performed.{Performed}
+use Rattle.list.specs.Performed.{Performed}
 use Rattle.list.specs.Performed.{performed, output_after, numbers_after}
 use Rattle.list.specs.Live.{Run, Equals, Chains}
 

@@ -6,7 +6,7 @@ use Rattle.rule.specs.Calls.{Call, Opening}
 use Rattle.rule.specs.Live.{without, announcing, living, Ahead}
 use Rattle.voice.specs.declared.Head.{Head}
 use Rattle.voice.specs.Struct.{state_of}
-use Rattle.list.specs.declared.Performed.{Performed}
+use Rattle.list.specs.Performed.{Performed}
 use Rattle.list.specs.Words.{calls, formed}
 use Rattle.list.specs.Performed.{Performs}
 use Rattle.list.specs.Chain.{Chained}

@@ -1,12 +1,24 @@
 -- What performing a list of calls on a fresh voice returns and leaves; demand 3 is a promise of it.
 -- Definitions alone. Assumes nothing.
-use Rattle.std.specs.Prelude.{◌≡◌, cond, List, ℕ, ℤ, length}
+use Rattle.std.specs.Prelude.{◌≡◌, cond, List, ℕ, ℤ, length, Result, Ok, Err}
+use Rattle.refusal.specs.declared.Refusal.{Refusal}
+use Rattle.refusal.specs.Numbers.{number_of, code_of}
 use Rattle.refusal.specs.Limits.{refusal}
 use Rattle.samples.specs.Samples.{over}
 use Rattle.rule.specs.Calls.{Opening, open_limits}
 use Rattle.rule.specs.State.{fresh, puts, numbers}
 use Rattle.list.specs.Words.{calls, formed}
-use Rattle.list.specs.declared.Performed.{Performed}
+use Rattle.list.specs.declared.Performed.{Performed as Done}
+
+-- what performing a list returns by number: its own, Open's, and how many samples the calls put out
+pub record Performed : Type 0 where
+  pub refusal : ℕ
+  pub opening : ℕ
+  pub written : ℕ
+
+abbrev pub done : Result Done Refusal → Performed
+done (Ok p) = record { refusal = 0; opening = code_of p.opening; written = p.written }
+done (Err r) = record { refusal = number_of r; opening = 0; written = 0 }
 
 -- 31: a list that is cut short or not in this form, before anything is done
 unfoldable pub performed : Opening → List ℕ → List ℤ → ℕ → ℕ → Performed

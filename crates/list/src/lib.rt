@@ -3,54 +3,48 @@
 #![tactic(auto)]
 
 ghost use Rattle.open.specs.Opened.{opening_of};
-ghost use Rattle.list.specs.Performed.{Performs};
+ghost use Rattle.list.specs.Performed.{done, Performs};
 
 use open::{Opening, open};
-use refusal::{Refusal, code};
+use refusal::Refusal;
 
 pub mod one;
 mod run;
 pub mod words;
 
-// What `perform` returns: refusal is 31 where the words are not in form, else 0; opening is the number that
-// Open returned; written is how many samples the calls put out. No Result, since C gets this struct by value.
+// What `perform` did: Open's answer, and how many samples the calls put out.
 #[derive(Clone, Copy)]
 pub struct Performed {
-    pub refusal: u32,
-    pub opening: u32,
+    pub opening: Result<(), Refusal>,
     pub written: usize,
 }
 
-// Opens a voice, and makes the calls of words on it, one after the other.
+// Opens a voice, and makes the calls of words on it, one after the other; 31 where the words are not in form.
 pub fn perform(
     opening: Opening,
     words: &[u32],
     input: &[i32],
     output: &mut [i32],
     numbers: &mut [u32],
-) -> Performed
+) -> Result<Performed, Refusal>
     ensures { Performs
         (opening_of opening)
         words.now
         input.now
         output.old
         numbers.old
-        result
+        (done result)
         output.new
         numbers.new }
 {
     if !words::formed(words, input.len(), output.len(), numbers.len()) {
-        return Performed {
-            refusal: Refusal::ListForm.number(),
-            opening: 0,
-            written: 0,
-        };
+        return Err(Refusal::ListForm);
     }
     let o = open(opening);
     let mut line = o.voice.line;
-    Performed {
-        refusal: 0,
-        opening: code(o.answer),
-        written: run::run(&mut line, o.voice.head, words, input, output, numbers),
-    }
+    let written = run::run(&mut line, o.voice.head, words, input, output, numbers);
+    Ok(Performed {
+        opening: o.answer,
+        written,
+    })
 }
