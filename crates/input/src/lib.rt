@@ -7,15 +7,15 @@ ghost use Rattle.std.proofs.Math.Seq.{paste};
 
 use std::io::{Read, Stdin};
 
-// A read that failed: how many bytes the room holds, as many as before, and the system's number of the error, as
-// `complain` of print takes it.
+// A read that failed: how many bytes the room holds, as many as before, and the error as the system numbers it,
+// which `complain` of print takes.
 #[derive(Clone, Copy)]
 pub struct Failed {
     pub held: usize,
     pub code: i32,
 }
 
-// One read into a room that holds some bytes: how many it holds then, as many as before at the end of the input.
+// One read into a room that holds some bytes: how many it holds then, as many as before where the input ends.
 pub fn more(mut from: Stdin, room: &mut [u8], held: usize) -> Result<usize, Failed>
     ensures { MatchResult result (λ n. n ≤ length room.old) (λ e. e.held ≤ length room.old) }
 {

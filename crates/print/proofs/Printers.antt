@@ -1,4 +1,4 @@
--- A text put where a printer made room, what a call did in other words, and what is printed of each of a list.
+-- A text put where a printer made room, what a call did in other words, and what is printed of a list.
 use Rattle.std.proofs.Common.{◌≡◌, ℕ, ◌+◌, ◌<◌, List, [], ◌∷◌, ◌++◌, length, get_or, take, refl, subst, ◌∙◌, arith}
 use Rattle.std.proofs.lemmas.List.{take_more}
 use Rattle.write.specs.Written.{Wrote}
@@ -8,8 +8,8 @@ use Rattle.print.specs.Printer.{place, Prints, PrintsEach}
 use Rattle.print.proofs.Texts.{another}
 
 pub put : {p q : Printer} {t after : List ℕ} {r : ℕ} (k : ℕ)
-    → Prints (λ before at after r. (after ≡ before) × MadeRoom at r) p q → place q.held ≡ k → Wrote t q.buffer k after r
-    → Printed t p.buffer (place p.held) after r
+    → Prints (λ before at after r. (after ≡ before) × MadeRoom at r) p q → place q.held ≡ k
+    → Wrote t q.buffer k after r → Printed t p.buffer (place p.held) after r
 put {p} {q} {t} {after} {r} k room at w = record {
   place = k;
   room = subst (λ (n : ℕ). MadeRoom (place p.held) n) at room.does.1;
@@ -35,6 +35,6 @@ module _ {X : Type 0} {One : X → List ℕ → ℕ → List ℕ → ℕ → Typ
   }
 
   -- the step of a loop that prints each of xs
-  pub each_step : {p q r : Printer} (xs : List X) (i : ℕ) (d : X) → i < length xs → PrintsEach One (take i xs) p q
-      → Prints (One (get_or xs i d)) q r → PrintsEach One (take (i + 1) xs) p r
+  pub each_step : {p q r : Printer} (xs : List X) (i : ℕ) (d : X) → i < length xs
+      → PrintsEach One (take i xs) p q → Prints (One (get_or xs i d)) q r → PrintsEach One (take (i + 1) xs) p r
   each_step xs i d inside before last = rw (take_more xs i d inside) (each_more (get_or xs i d) before last)

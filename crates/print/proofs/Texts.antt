@@ -12,17 +12,20 @@ use Rattle.print.specs.Printed.{Decimal, fewest, Spells, plain, minus, Each, non
 digits_long : (k n : ℕ) → length (last_digits 10 k n) ≡ k
 digits_long zero n = refl
 digits_long (suc k) n =
-    omega (arith, length-append (last_digits 10 k (n / 10)) (hex_digit_ascii (n % 10) ∷ []), digits_long k (n / 10))
+    let front = digits_long k (n / 10) in
+    omega (arith, front, length-append (last_digits 10 k (n / 10)) (hex_digit_ascii (n % 10) ∷ []))
 
 -- a text that fits behind what stands before its place
-pub wrote-take : {t before after : List ℕ} {at r : ℕ} → at + length t ≤ length before → Wrote t before at after r
-    → (take r after ≡ take at before ++ t) × (r ≡ at + length t)
+pub wrote-take : {t before after : List ℕ} {at r : ℕ} → at + length t ≤ length before
+    → Wrote t before at after r → (take r after ≡ take at before ++ t) × (r ≡ at + length t)
 wrote-take {t} {before} {after} {at} {r} room w =
     let p = w.fits room in
-    (rw (p.0, p.1) (take-paste before at t (length t) (omega arith) (le_refl (length t)) ∙ ap (λ (l : List ℕ). take at before ++ l) (take-length t)), p.0)
+    let front = take-paste before at t (length t) (omega arith) (le_refl (length t)) in
+    (rw (p.0, p.1) (front ∙ ap (λ (l : List ℕ). take at before ++ l) (take-length t)), p.0)
 
 -- a number there; with a sign, of at most 20 digits
-pub record Put (P : List ℕ → Type 0) (most : ℕ) (before : List ℕ) (at : ℕ) (after : List ℕ) (r : ℕ) : Type 0 where
+pub record Put (P : List ℕ → Type 0) (most : ℕ) (before : List ℕ) (at : ℕ) (after : List ℕ) (r : ℕ)
+    : Type 0 where
   pub text : List ℕ
   pub is : P text
   pub taken : take r after ≡ take at before ++ text
@@ -39,8 +42,8 @@ spelled {n} room s =
       end = omega (arith, w.1, s.most, digits_long s.places n);
     }
 
-pub signed : {at r : ℕ} {before after : List ℕ} (x : ℤ) → at + 21 ≤ length before → Written.Signed x before at after r
-    → Put (Spells x) 21 before at after r
+pub signed : {at r : ℕ} {before after : List ℕ} (x : ℤ) → at + 21 ≤ length before
+    → Written.Signed x before at after r → Put (Spells x) 21 before at after r
 signed (pos n) room s =
     let p = spelled (omega arith) s in
     record { text = p.text; is = plain p.is; taken = p.taken; end = omega (arith, p.end) }

@@ -1,5 +1,5 @@
--- What a buffer of 4,096 bytes holds after a text was printed, and the place after it: how many bytes the buffer
--- then holds, or 4,097 where standard output took no more.
+-- What a buffer of 4,096 bytes holds after a text was printed, and the place after it: how many bytes the
+-- buffer then holds, or 4,097 where standard output took no more.
 use Rattle.std.specs.Prelude.{List, [], ◌∷◌, ◌++◌, ℕ, suc, ◌/◌, ◌%◌, ◌≤◌, ◌<◌, ℤ, pos, negsuc}
 use Rattle.io.specs.Digits.{hex_digit_ascii, last_digits, IsDigitCount}
 use Rattle.write.specs.Written.{Wrote}

@@ -1,5 +1,5 @@
--- What a printer holds after a call: the buffer, and the place in it, which is how many bytes the buffer holds, and
--- 4,097 once standard output took no more (Printed).
+-- What a printer holds after a call: the buffer, and the place in it, which is how many bytes the buffer holds,
+-- and 4,097 once standard output took no more (Printed).
 use Rattle.std.specs.Prelude.{◌≡◌, List, ℕ, ◌≤◌, ◌<◌, length, Option, Some, None}
 use Rattle.print.specs.declared.Printer.{Printer}
 use Rattle.print.specs.Printed.{Each}
@@ -15,8 +15,8 @@ pub record Prints (Does : List ℕ → ℕ → List ℕ → ℕ → Type 0) (bef
   pub out : after.out ≡ before.out
 
 -- the same of each of a list, one after the other; of none nothing is printed
-pub record PrintsEach {X : Type 0} (One : X → List ℕ → ℕ → List ℕ → ℕ → Type 0) (xs : List X) (before after : Printer)
-    : Type 0 where
+pub record PrintsEach {X : Type 0} (One : X → List ℕ → ℕ → List ℕ → ℕ → Type 0) (xs : List X)
+    (before after : Printer) : Type 0 where
   pub each : Each One xs before.buffer (place before.held) after.buffer (place after.held)
   pub some : 0 < length xs → place after.held ≤ 4097
   pub within : place before.held ≤ 4097 → place after.held ≤ 4097

@@ -13,8 +13,8 @@ pub use out::{Out, code};
 use std::io::Print;
 
 // held is how many bytes the buffer holds; None once standard output took no more.
-// An array and a length, and no Vec: the programs take no heap. No invariant bounds held: `flush` answers for a
-// place past the buffer too (must-fail/place_kept.edit).
+// An array and a length, and no Vec: the programs take no heap. No invariant bounds held: `flush` answers for
+// a place past the buffer too (must-fail/place_kept.edit).
 #[derive(Drop)]
 pub struct Printer {
     pub out: Out,

@@ -1,4 +1,4 @@
-// Where a program prints: standard output, and standard error for what it says of a read or a write that failed.
+// Where a program prints: standard output, and standard error for a read or a write that failed.
 use std::io::{Cursor, Error, Print, Stderr, Stdout, Write};
 use words::before;
 
@@ -21,7 +21,7 @@ impl Out {
         let _ = self.told.write_all(s);
     }
 
-    // The system's words for an error. std prints its number behind them, in brackets, which the output may not have.
+    // The system's words for an error. std prints its number behind them, in brackets, and the output has none.
     fn reason(&self, code: i32) {
         let mut text = [0u8; 320];
         let mut room = Cursor::new(&mut text[..]);

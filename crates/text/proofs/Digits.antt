@@ -10,10 +10,12 @@ grows [] n = omega arith
 grows (b ∷ s) n = omega (arith, grows s (10 * n + (b - 48)))
 
 -- one more byte, and the number is no smaller than this
-pub decimal_least : (s : List ℕ) (i n : ℕ) → i < length s → 10 * n + (get_or s i 0 - 48) ≤ decimal n (drop i s)
+pub decimal_least : (s : List ℕ) (i n : ℕ) → i < length s
+    → 10 * n + (get_or s i 0 - 48) ≤ decimal n (drop i s)
 decimal_least s i n inside = rw (drop-cons s i 0) (grows (drop (suc i) s) (10 * n + (get_or s i 0 - 48)))
 
-read : (s : List ℕ) (n : ℕ) → 0 < length s → true ≡ digits s → n ≡ decimal 0 s → n < 2 ^ 32 → Some n ≡ number_of s
+read : (s : List ℕ) (n : ℕ) → 0 < length s → true ≡ digits s → n ≡ decimal 0 s → n < 2 ^ 32
+    → Some n ≡ number_of s
 read [] n some d e low = absurd (omega arith)
 read (b ∷ s) n some d e low = grind (arith, nat_tests)
 

@@ -1,14 +1,8 @@
--- Where the first word of a text stands: behind its blanks, and it is not empty where it starts before the end.
--- A fact of every place from one on, for one place more.
+-- Where the first word of a text stands: behind its blanks; it is not empty where it starts before the end.
 use Rattle.std.proofs.Common.{◌≡◌, ℕ, ◌+◌, ◌-◌, ◌≤◌, ◌<◌, true, List, length, get_or, drop, sym, ◌∙◌, ap, arith, length-drop, below_more}
 use Rattle.std.proofs.lemmas.Bool.{false≢true}
 use Rattle.std.proofs.lemmas.List.{get_or-drop}
 use Rattle.words.specs.Words.{blank, Starts, Stops, FirstWord}
-
-pub from_more : (P : ℕ → Type 0) (start i : ℕ) → ((k : ℕ) → start ≤ k → k < i → P k) → P i
-    → (k : ℕ) → start ≤ k → k < i + 1 → P k
-from_more P start i all here k h l =
-    below_more (λ (j : ℕ). start ≤ j → P j) i (λ j m s. all j s m) (λ s. here) k l h
 
 module _ {s : List ℕ} {a n : ℕ} (before : Starts s a) (letters : Stops (drop a s) 0 n) where
   -- the letters, by their places in the whole text

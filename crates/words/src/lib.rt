@@ -31,8 +31,8 @@ fn blanks(s: &[u8]) -> usize
     s.iter().position(|b| !is_blank(*b)).unwrap_or(s.len())
 }
 
-// How many bytes the text starts with that are no blanks. One function with a test passed in is no plainer than
-// these: its clause would speak of the calls of a closure.
+// How many bytes the text starts with that are no blanks. One function with a test passed in is no plainer:
+// its clause would speak of the calls of a closure.
 fn letters(s: &[u8]) -> usize
     ensures { Stops s.now 0 result }
 {

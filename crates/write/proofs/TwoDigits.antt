@@ -4,7 +4,8 @@ use native.Mathlib.Nat.{pow-suc, one-le-pow}
 use Rattle.io.specs.Digits.{hex_digit_ascii, last_digits, IsDigitCount}
 
 three : (n j : ℕ) → n < 256 → 16 ^ (suc (suc j)) ≤ n → ⊥
-three n j small holds = omega (arith, pow-suc 16 (suc j), pow-suc 16 j, one-le-pow j 16 (omega arith), holds, small)
+three n j small holds =
+    omega (arith, pow-suc 16 (suc j), pow-suc 16 j, one-le-pow j 16 (omega arith), holds, small)
 
 pub two_digits : (n k : ℕ) → n < 256 → IsDigitCount 16 2 n k
     → last_digits 16 k n ≡ hex_digit_ascii (n / 16) ∷ hex_digit_ascii (n % 16) ∷ []

@@ -1,4 +1,4 @@
--- `text::read_number` meets its contract: the digits that are left, after the number n, spell the word's number.
+-- `text::read_number` meets its contract: the digits left, after the number n, spell the word's number.
 use Rattle.std.proofs.Common.{◌∙◌, arith}
 use Rattle.std.proofs.lemmas.Bool.Decides.{nat_tests}
 use Rattle.text.proofs.Digits.{decimal_least, number_of-read, number_of-large}
@@ -20,5 +20,6 @@ returns-in_err-n c =
 
 pub returns : goal.returns
 returns c =
-    number_of-read c.args.word.now c.loop-b.b-index c.loop-b.n (grind (arith, nat_tests, c.if-is_empty.ensures)) c.loop-b-test.false
+    number_of-read c.args.word.now c.loop-b.b-index c.loop-b.n
+    (grind (arith, nat_tests, c.if-is_empty.ensures)) c.loop-b-test.false
     c.loop-b.invariant.digits c.loop-b.invariant.decimal c.loop-b.invariant.below

@@ -1,4 +1,4 @@
--- `text::read_number` meets its contract: the digits that are left, after the number n, spell the word's number.
+-- `text::read_number` meets its contract: the digits left, after the number n, spell the word's number.
 use Rattle.std.proofs.Common.{◌≡◌, ◌<◌, ◌^◌, drop}
 use Rattle.text.specs.Numbers.{digits, decimal}
 use Rattle.text.proofs.read_number.Given as goal

@@ -6,4 +6,5 @@ use Rattle.write.proofs.hex.Goals as goal
 pub returns : goal.returns
 returns c =
     let h = c.hex-k in
-    rw (← two_digits c.args.b h.result (omega (arith, c.ranges.b.fits)) h.ensures.len, ← h.ensures.digits) c.bytes.ensures
+    let two = two_digits c.args.b h.result (omega (arith, c.ranges.b.fits)) h.ensures.len in
+    rw (← two, ← h.ensures.digits) c.bytes.ensures

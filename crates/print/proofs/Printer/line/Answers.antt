@@ -13,5 +13,9 @@ returns g c =
     let fits : SFits w64 y = record { sfits = c.into.type_inv } in
     let p = signed y (search rules) (rw (to_z-of_z fits) at c.signed-last.ensures) in
     let w = wrote-take (omega (arith, p.end)) c.bytes-end.ensures in
-    let b = c.bytes.ensures in
-    (y, c.into.ensures, in_words b (record { text = p.text; spells = p.is; printed = rw (w.0, p.taken) at b.does }))
+    let b = c.bytes.ensures in (
+      y,
+      c.into.ensures,
+      in_words b
+          (record { text = p.text; spells = p.is; printed = rw (w.0, p.taken) at b.does }),
+    )

@@ -7,5 +7,9 @@ use Rattle.print.proofs.Printer.number.Goals as goal
 pub returns : goal.returns
 returns g c =
     let p = spelled (search rules) c.number-end.ensures in
-    let b = c.bytes.ensures in
-    (c.into.result, c.into.ensures, in_words b (record { text = p.text; decimal = p.is; printed = rw p.taken at b.does }))
+    let b = c.bytes.ensures in (
+      c.into.result,
+      c.into.ensures,
+      in_words b
+          (record { text = p.text; decimal = p.is; printed = rw p.taken at b.does }),
+    )

@@ -6,4 +6,5 @@ use Rattle.words.proofs.pieces.after.Goals as goal
 pub returns : goal.returns
 returns c =
     let n = c.before-2 in
-    rw c.unwrap_or.ensures (part-past c.args.b c.args.s.now n.result c.get.result _ n.ensures c.get.ensures.lookup refl)
+    rw c.unwrap_or.ensures
+    (part-past c.args.b c.args.s.now n.result c.get.result _ n.ensures c.get.ensures.lookup refl)

@@ -12,4 +12,6 @@ loop-preserved c =
     rw (e, c.after-rest.ensures) (piece-less b n l.rest.now (omega arith) ∙ l.invariant)
 
 pub returns : goal.returns
-returns c = let l = c.loop in c.ahead.ensures ∙ piece-first _ (c.args.k - l.counter) l.rest.now (omega arith) ∙ l.invariant
+returns c =
+    let l = c.loop in
+    c.ahead.ensures ∙ piece-first _ (c.args.k - l.counter) l.rest.now (omega arith) ∙ l.invariant
