@@ -40,24 +40,12 @@ pub fn kept(order: u32, v: State) -> State
     requires { order ≤ orders }
     ensures { result ≡ stored (held order v) }
 {
-    if order == 0 {
-        return at_rest();
+    match order {
+        0 => at_rest(),
+        1 => State { v2: 0, v3: 0, ..v },
+        2 => State { v3: 0, ..v },
+        _ => v,
     }
-    if order < 2 {
-        return State {
-            v1: v.v1,
-            v2: 0,
-            v3: 0,
-        };
-    }
-    if order < 3 {
-        return State {
-            v1: v.v1,
-            v2: v.v2,
-            v3: 0,
-        };
-    }
-    v
 }
 
 // The index of the last of the 64 values w that exceeds the threshold in magnitude, plus one, where 1,000,000

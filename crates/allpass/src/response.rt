@@ -16,8 +16,7 @@ fn later(v: State, threshold: u32, index: u32, last: u32) -> u32
     requires { index < 64 }
     ensures { result ≡ cond (ltb threshold (nat_abs v.v1)) (index + 1) last }
 {
-    let t = threshold as i64;
-    if v.v1 > t || v.v1 < -t {
+    if v.v1.unsigned_abs() > u64::from(threshold) {
         return index + 1;
     }
     last
@@ -30,12 +29,9 @@ pub fn last_loud(order: u32, c: Coefficients, threshold: u32) -> u32
 {
     let mut v = eliminate(order, false, c, at_rest(), Value { n: 1_000_000 });
     let mut last = later(v, threshold, 0, 0);
-    let mut index: u32 = 1;
-    while index < 64 {
-        let u = eliminate(order, false, c, v, Value { n: 0 });
-        v = u;
+    for index in 1..64 {
+        v = eliminate(order, false, c, v, Value { n: 0 });
         last = later(v, threshold, index, last);
-        index += 1;
     }
     last
 }
