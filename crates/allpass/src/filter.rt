@@ -1,5 +1,8 @@
 // Parts of one sample. What differs by order is in `oldest`, `shifted` and `weighed`, which has as many products as
 // the order. A state holds 0 past the order.
+// The order is a number and no const parameter: a voice has it as one, and each loop of an order is a call with a
+// literal, where LLVM folds these tests. They stay as bench/floor holds them to C: a loop that costs LLVM more is no
+// longer compiled into its caller. Order, c and v stay apart: a loop carries v, and the others do not change.
 ghost use Rattle.std.specs.Prelude.{◌≡◌, ◌*◌, ◌≤◌, pos};
 ghost use Rattle.integer.specs.Rounding.{M};
 ghost use Rattle.integer.specs.Cut.{R};

@@ -1,5 +1,5 @@
 // A number of a filter's state times each coefficient, and what the output and the next products take of it.
-// What differs by order is here.
+// What differs by order is here, by tests of a number, as in `filter`.
 ghost use Rattle.std.specs.Prelude.{◌≡◌, ◌*◌, ◌≤◌, ◌^◌, nat_abs, ◌+ℤ◌, ◌*ℤ◌};
 ghost use Rattle.integer.specs.Rounding.{M};
 ghost use Rattle.integer.specs.Cut.{R};
@@ -76,7 +76,7 @@ pub fn quotient(order: u32, c: Coefficients, w: Value, x: Multiples) -> Value
     Value { n: 0 }
 }
 
-// AN·w.
+// AN·w. Not one function with `filter::oldest`: it would take three numbers in place of a struct.
 fn foremost(order: u32, x: Multiples) -> Value
     ensures { result.n ≡ last_of order x }
 {

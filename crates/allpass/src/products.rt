@@ -36,7 +36,7 @@ pub struct Carried {
     pub products: Products,
 }
 
-// v2, or 0 in order 1.
+// v2, or 0 in order 1. Not one function with `third`: it would ask which of the two is wanted.
 fn second(order: u32, v: State) -> Value
     requires { (1 ≤ order) × (order ≤ orders) }
     ensures { result.n ≡ number order v 1 }
@@ -90,7 +90,8 @@ fn renewed(order: u32, c: Coefficients, w: Value, k: Products, x: Multiples) -> 
     }
 }
 
-// Those of a state whose numbers have the products x, y and z, and w is the newest.
+// Those of a state whose numbers have the products x, y and z, and w is the newest. Not by `renewed`: what it takes of
+// the state before would have to be made up, half of it unused.
 fn joined(
     order: u32,
     c: Coefficients,
@@ -130,6 +131,7 @@ pub fn of_state(order: u32, c: Coefficients, v: State) -> Products
 }
 
 // One sample of the filter, where k has the products of v; R as is best where noise may come, or where it does not.
+// noisy is a flag and no closure: a loop gives it as a literal, and the two ways of R are in crate integer.
 pub fn carry(order: u32, noisy: bool, c: Coefficients, v: State, k: Products, f: Value) -> Carried
     requires { Fed order c v f.n × (k ≡ products_of order c v) }
     ensures { (Clip result.y.n ≡ out (taps order c) (held order v) f.n)

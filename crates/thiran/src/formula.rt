@@ -47,7 +47,7 @@ fn rounded(p: Ratio) -> Value
     round_half_up(Value { n: 65_536 * p.top }, p.bottom)
 }
 
-// A1 .. AN, and 0 past the order.
+// A1 .. AN, and 0 past the order. Three steps and no loop: a loop would put the numbers in an array first.
 pub fn set(order: u32, d: u32) -> Coefficients
     requires { Takes order d }
     ensures { result ≡ padded (coefficients order d) }

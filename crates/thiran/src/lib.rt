@@ -11,7 +11,7 @@ use refusal::{ORDERS, Refusal, within};
 
 pub mod formula;
 
-// A1, A2 and A3, 0 past the order.
+// A1, A2 and A3, 0 past the order: of 32 bits, as C gets them. `Coefficients`, by which the loops multiply, has 64.
 #[derive(Clone, Copy)]
 pub struct Taps {
     pub a1: i32,

@@ -1,5 +1,6 @@
 // A junction in 16 words that a host lends: unpacked when a call begins, and packed when it ends.
 // Every 16 words are some junction (specs/Words.antt); a signed number stands 2^31 higher in its word.
+// Parts stand at places of these words, and what waits has a kind of 0 or 1: C lends the words as one array.
 ghost use Rattle.std.specs.Prelude.{◌≡◌, ◌≤◌};
 ghost use Rattle.tube.specs.Valid.{Tunes, Waits, Valid};
 ghost use Rattle.signs.specs.Signs.{signed_of};
@@ -57,6 +58,7 @@ fn waiting(kind: u32, d: u32, taken: u32, filters: Filters) -> Option<Move>
 }
 
 // The junction that the words are.
+#[tactic(auto, unfolding(crate::specs::Words::from_words))]
 pub fn unpack(words: &[u32; 16]) -> Junction
     ensures { result ≡ from_words words.now }
 {
@@ -101,6 +103,7 @@ fn waiting_words(advance: u32, w: Option<Move>) -> Seven
 }
 
 // The words of a junction: 0 where nothing waits.
+#[tactic(auto, unfolding(crate::specs::Words::from_words))]
 pub fn pack(j: Junction) -> [u32; 16]
     requires { Valid j }
     ensures { from_words result ≡ j }
