@@ -31,23 +31,18 @@ fn sounding(line: &mut [i32; 2112], fed: bool, mut head: Head, buffer: &mut [i32
         line.new result.done }
     ensures done_nonzero { 0 < length buffer.old → 0 < result.done }
 {
-    let mut i = 0;
-    while i < buffer.len() {
+    for i in 0..buffer.len() {
         let x = input(fed, buffer, i);
         let r = step(line, head, x);
         samples::write(buffer, i, r.y);
         head = r.head;
-        i = i + 1;
         if head.pluck.left == 0 {
-            return Progress {
-                head: head,
-                done: i,
-            };
+            return Progress { head, done: i + 1 };
         }
     }
     Progress {
-        head: head,
-        done: i,
+        head,
+        done: buffer.len(),
     }
 }
 
@@ -91,6 +86,7 @@ fn through(line: &mut [i32; 2112], fed: bool, mut head: Head, buffer: &mut [i32]
     ensures valid { Valid result line.new }
 {
     let mut i = 0;
+    // Not a `for`: a stretch is as long as the loop that renders it can be.
     while i < buffer.len() {
         let p = stretch(line, fed, head, &mut buffer[i..]);
         head = p.head;

@@ -17,21 +17,16 @@ fn none(h: Head) -> Led
     requires { Fit h }
     ensures { (after_of h result ≡ h) × (result.ran.done ≡ 0) }
 {
-    let v = h.filter.state;
-    let y = h.last;
-    let w = h.waiting;
-    let r = Ran {
-        state: v,
-        last: y,
+    let ran = Ran {
+        state: h.filter.state,
+        last: h.last,
         done: 0,
     };
-    match w {
-        Waiting::Idle => Led { ran: r, next: v },
-        Waiting::Prepared(_, e, _) => {
-            let u = e.state;
-            Led { ran: r, next: u }
-        }
-    }
+    let next = match h.waiting {
+        Waiting::Idle => h.filter.state,
+        Waiting::Prepared(_, e, _) => e.state,
+    };
+    Led { ran, next }
 }
 
 // Renders samples while no pluck sounds, as many as one loop can.
@@ -45,8 +40,7 @@ pub fn quiet(line: &mut [i32; 2112], fed: bool, h: Head, buffer: &mut [i32]) -> 
         return none(h);
     }
     let n = line::room(h.at, h.filter.tuning.length as usize, buffer.len());
-    let w = h.waiting;
-    match w {
+    match h.waiting {
         Waiting::Idle => while_idle(line, fed, h, &mut buffer[..n]),
         Waiting::Prepared(kind, e, taken) => {
             let m = line::room(h.at, e.tuning.length as usize, n);

@@ -9,18 +9,12 @@ ghost use Rattle.voice.specs.Valid.{Fit};
 
 use voice::{Head, Kind, Waiting};
 
-fn smaller(a: usize, b: usize) -> usize
-    ensures { (result ≤ a) × (result ≤ b) }
-{
-    if a < b { a } else { b }
-}
-
 // How many of n samples a change of this kind waits for, if an announced one waits for so many more.
 pub fn reach(kind: Kind, n: usize, left: usize) -> usize
     ensures { (result ≤ n) × (kind_of kind ≡ announced → result ≤ left) }
 {
     match kind {
-        Kind::Announced => smaller(n, left),
+        Kind::Announced => n.min(left),
         Kind::Asked => n,
     }
 }
@@ -41,11 +35,10 @@ pub fn sung(h: Head, n: usize) -> usize
     requires { Fit h }
     ensures { (result ≤ n) × Apart h.at h.filter.tuning.length result × (0 < result → h.waiting ≡ Idle) }
 {
-    let w = h.waiting;
-    match w {
+    match h.waiting {
         Waiting::Idle => {
             let m = line::room(h.at, h.filter.tuning.length as usize, n);
-            smaller(m, few(h.pluck.left) as usize)
+            m.min(few(h.pluck.left) as usize)
         }
         Waiting::Prepared(_, _, _) => 0,
     }

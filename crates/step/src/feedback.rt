@@ -60,13 +60,10 @@ pub fn circulate(
 {
     let a = line::read(line, at, f.tuning.length as usize);
     let o = hear(f, a);
-    let y = o.y;
-    let s = mixed(x, noise, looped(loss, y, last));
-    let next = line::write(line, at, s);
-    let n = o.filter;
+    let s = mixed(x, noise, looped(loss, o.y, last));
     Circulated {
-        y: y,
-        filter: n,
-        at: next,
+        y: o.y,
+        filter: o.filter,
+        at: line::write(line, at, s),
     }
 }

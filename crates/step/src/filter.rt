@@ -20,18 +20,14 @@ pub fn hear(f: Filter, x: Value) -> Heard
     requires { Tuned f × (nat_abs x.n ≤ M) }
     ensures { Hears f x.n result }
 {
-    let t = f.tuning;
-    let c = f.coefficients;
-    let v = f.state;
-    let o = allpass(t.order, c, v, x);
-    let y = o.y;
-    let s = o.state;
-    let n = Filter {
-        tuning: t,
-        coefficients: c,
-        state: s,
-    };
-    Heard { y: y, filter: n }
+    let o = allpass(f.tuning.order, f.coefficients, f.state, x);
+    Heard {
+        y: o.y,
+        filter: Filter {
+            state: o.state,
+            ..f
+        },
+    }
 }
 
 // The eliminator takes x.
@@ -39,13 +35,6 @@ pub fn moved(f: Filter, x: Value) -> Filter
     requires { Tuned f × (nat_abs x.n ≤ M) }
     ensures { Moved f x.n result }
 {
-    let t = f.tuning;
-    let c = f.coefficients;
-    let v = f.state;
-    let s = eliminate(t.order, false, c, v, x);
-    Filter {
-        tuning: t,
-        coefficients: c,
-        state: s,
-    }
+    let state = eliminate(f.tuning.order, false, f.coefficients, f.state, x);
+    Filter { state, ..f }
 }

@@ -48,8 +48,7 @@ fn settled(h: Head, w: Waiting, g: Value) -> Head
 fn preview(h: Head) -> usize
     ensures { result ≡ previewed h.waiting h.filter.tuning.length }
 {
-    let w = h.waiting;
-    match w {
+    match h.waiting {
         Waiting::Idle => h.filter.tuning.length as usize,
         Waiting::Prepared(_, e, _) => e.tuning.length as usize,
     }
@@ -62,21 +61,17 @@ pub fn step(line: &mut [i32; 2112], h: Head, x: Value) -> Stepped
 {
     let g = line::read(line, h.at, preview(h));
     let p = sound(h.pluck);
-    let noise = p.noise;
-    let r = circulate(line, h.filter, h.loss, h.last, h.at, x, noise);
-    let y = r.y;
-    let filter = r.filter;
-    let rest = p.rest;
-    let w = h.waiting;
+    let r = circulate(line, h.filter, h.loss, h.last, h.at, x, p.noise);
     let n = Head {
-        filter: filter,
-        loss: h.loss,
-        advance: h.advance,
-        last: y,
+        filter: r.filter,
+        last: r.y,
         waiting: Waiting::Idle,
-        pluck: rest,
+        pluck: p.rest,
         at: r.at,
+        ..h
     };
-    let head = settled(n, w, g);
-    Stepped { y: y, head: head }
+    Stepped {
+        y: r.y,
+        head: settled(n, h.waiting, g),
+    }
 }

@@ -36,25 +36,23 @@ pub fn sound(p: Pluck) -> Sounded
         };
     }
     let d = draw(p.noise);
-    let s = scaled(p.amplitude, d);
+    let noise = scaled(p.amplitude, d);
     if p.left == 1 {
-        let silent = Pluck {
-            amplitude: 0,
-            left: 0,
-            noise: 0,
-        };
         return Sounded {
-            noise: s,
-            rest: silent,
+            noise,
+            rest: Pluck {
+                amplitude: 0,
+                left: 0,
+                noise: 0,
+            },
         };
     }
-    let rest = Pluck {
-        amplitude: p.amplitude,
-        left: p.left - 1,
-        noise: d.state,
-    };
     Sounded {
-        noise: s,
-        rest: rest,
+        noise,
+        rest: Pluck {
+            left: p.left - 1,
+            noise: d.state,
+            ..p
+        },
     }
 }

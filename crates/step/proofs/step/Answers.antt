@@ -14,8 +14,8 @@ read-g-requires c =
     let p = preview_within v.fit c.preview.ensures in
     (v.fit.at, p.0, omega (arith, p.1))
 
-pub settled-head-requires : goal.settled-head-requires
-settled-head-requires c =
+pub settled-requires : goal.settled-requires
+settled-requires c =
     let v = c.requires.0 in (
       heard-fit v c.sound-p.ensures c.circulate-r.ensures,
       v.fit.waiting,
@@ -28,4 +28,4 @@ returns c =
     let q = back (ring h.at c.args.line.now) in
     steps c.requires.0 c.sound-p.ensures c.circulate-r.ensures
     (reads h q c.preview.ensures c.read-g.ensures)
-    c.settled-head.ensures
+    c.settled.ensures

@@ -17,8 +17,8 @@ hear-o-requires c =
     let r = c.requires.tuned in
     (r.0, read-within (c.args.f.tuning.length - 1) r.4 c.read-a.ensures)
 
-pub write-next-requires : goal.write-next-requires
-write-next-requires c =
+pub write-requires : goal.write-requires
+write-requires c =
     let a = c.args in
     let u = (a.x.n +ℤ a.noise.n) +ℤ c.looped.result.n in
     (c.requires.tuned.3, subst (λ (z : ℤ). nat_abs z ≤ M) (sym c.mixed-s.ensures) (clip_abs u))
@@ -30,6 +30,6 @@ returns c =
     c.mixed-s.ensures ∙ ap (λ (b : ℤ). clip ((a.x.n +ℤ a.noise.n) +ℤ b)) c.looped.ensures.0 in
     record {
       hears = subst (λ (x : ℤ). Hears a.f x c.hear-o.result) c.read-a.ensures c.hear-o.ensures;
-      place = c.write-next.ensures.0;
-      line = c.write-next.ensures.1 ∙ ap (λ (s : ℤ). s ∷ take 2111 (ring a.at a.line.now)) s;
+      place = c.write.ensures.0;
+      line = c.write.ensures.1 ∙ ap (λ (s : ℤ). s ∷ take 2111 (ring a.at a.line.now)) s;
     }

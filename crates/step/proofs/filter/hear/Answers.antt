@@ -8,6 +8,5 @@ allpass-o-requires c = let i = c.requires in tuned-fed i.0 i.1
 
 pub returns : goal.returns
 returns c =
-    let o = c.before.before in
-    let i = o.requires in
-    tuned-hears i.0 i.1 o.allpass-o.ensures.0 o.allpass-o.ensures.1
+    let i = c.requires in
+    tuned-hears i.0 i.1 c.allpass-o.ensures.0 c.allpass-o.ensures.1

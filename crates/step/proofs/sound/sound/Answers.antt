@@ -12,43 +12,35 @@ use Rattle.rule.specs.Voice.{noise, spent}
 use Rattle.voice.specs.declared.Pluck.{Pluck}
 use Rattle.voice.specs.Struct.{pluck_of}
 use Rattle.step.proofs.Silent.{sounds-none}
+use Rattle.step.proofs.sound.sound.Goals.{After-scaled-noise}
 use Rattle.step.proofs.sound.sound.Goals as goal
-use Rattle.step.proofs.sound.sound.Lts as lts
-use Rattle.step.proofs.sound.sound.Reads as reads
-use Rattle.step.proofs.sound.sound.Tie as tie
 
 pub returns-then-p-eq0 : goal.returns-then-p-eq0
 returns-then-p-eq0 c = sounds-none c.requires c.if-p-eq0.true
 
-pub scaled-s-requires : goal.scaled-s-requires
-scaled-s-requires c =
-    let s = c.before.before.before in
-    let z = next s.args.p.noise in
-    (s.requires.amplitude, rw c.draw-d.ensures (value-size z (next-size s.args.p.noise)))
+pub scaled-noise-requires : goal.scaled-noise-requires
+scaled-noise-requires c =
+    let z = next c.args.p.noise in
+    (c.requires.amplitude, rw c.draw-d.ensures (value-size z (next-size c.args.p.noise)))
 
 -- with a step left
 sounding : (p : Pluck) → (p.left ≡ 0 → ⊥) → pos p.amplitude *ℤ value (next p.noise) ≡ noise (pluck_of p)
 unfolding noise
 sounding p h = rw (ne_eqb p.left 0 h)
 
-module _ (c : (lts.After-scaled tie.the-claims reads.Pre reads.Post)) where
-  abbrev p : Pluck
-  p = c.args.p
-
-  value-is : c.scaled-s.result.n ≡ noise (pluck_of p)
-  value-is =
-      c.scaled-s.ensures.0
-      ∙ ap (λ (d : Drawn). pos p.amplitude *ℤ d.value) c.draw-d.ensures
-      ∙ sounding p c.if-p-eq0.false
+value-is : (c : After-scaled-noise) → c.scaled-noise.result.n ≡ noise (pluck_of c.args.p)
+value-is c =
+    c.scaled-noise.ensures.0
+    ∙ ap (λ (d : Drawn). pos c.args.p.amplitude *ℤ d.value) c.draw-d.ensures
+    ∙ sounding c.args.p c.if-p-eq0.false
 
 pub returns-then-p-eq1 : goal.returns-then-p-eq1
 unfolding spent
 returns-then-p-eq1 c =
-    let a = c.before.before in
     let e = c.if-p-eq1.true in
     record {
-      value = value-is a;
-      small = a.scaled-s.ensures.1;
+      value = value-is (goal.at.returns-then-p-eq1 c).After-scaled-noise;
+      small = c.scaled-noise.ensures.1;
       rest = rw e;
       plucked = record {
         amplitude = omega arith;
@@ -61,18 +53,17 @@ returns-then-p-eq1 c =
 pub returns : goal.returns
 unfolding spent
 returns c =
-    let a = c.before.before.before in
-    let s = a.before.before.before.before in
-    let h : 1 < (p a).left = omega arith in
-    let e = a.draw-d.ensures in
+    let p = c.args.p in
+    let h : 1 < p.left = omega arith in
+    let e = c.draw-d.ensures in
     record {
-      value = value-is a;
-      small = a.scaled-s.ensures.1;
-      rest = rw (lt-leb (p a).left 1 h, e);
+      value = value-is (goal.at.returns c).After-scaled-noise;
+      small = c.scaled-noise.ensures.1;
+      rest = rw (lt-leb p.left 1 h, e);
       plucked = record {
-        amplitude = s.requires.amplitude;
-        left = omega (arith, s.requires.left);
-        noise = rw e (next-size (p a).noise);
+        amplitude = c.requires.amplitude;
+        left = omega (arith, c.requires.left);
+        noise = rw e (next-size p.noise);
         none_left = λ z. absurd (omega arith);
       };
     }
