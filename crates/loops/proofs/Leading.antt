@@ -2,17 +2,13 @@
 -- what waits. Assumes nothing.
 use mathlib.Core.Path.{◌≡◌, refl, sym, ap, subst, ◌∙◌}
 use mathlib.Core.List.{List}
-use mathlib.Core.Bool.{Bool}
-use Prim.Native.Nat.{ℕ, suc, ◌+◌, ◌-◌, ◌%◌, ◌≤◌, ◌<◌, min}
+use Prim.Native.Nat.{ℕ, suc, ◌+◌, ◌%◌, ◌≤◌, ◌<◌, min}
 use native.Mathlib.Omega.{arith}
 use lib.IntN.{ℤ, pos}
-use lib.ListN.{length}
 use Rattle.integer.specs.declared.Value.{Value}
-use Rattle.integer.specs.Rounding.{M}
 use Rattle.allpass.specs.declared.State.{State}
 use Rattle.allpass.specs.Stored.{held, stored}
-use Rattle.samples.specs.Samples.{loudest}
-use Rattle.line.specs.Ring.{ring, Apart}
+use Rattle.line.specs.Ring.{ring}
 use Rattle.rule.specs.State.{back}
 use Rattle.voice.specs.declared.Filter.{Filter}
 use Rattle.voice.specs.declared.Waiting.{Waiting}
@@ -23,31 +19,8 @@ use Rattle.voice.specs.Valid.{Tuned, Waiting-valid, Valid}
 use Rattle.step.specs.Sample.{Moved, Circulates, Steps}
 use Rattle.loops.specs.declared.Led.{Led}
 use Rattle.loops.specs.Carried.{anew_of, carried_of, ran_of, gone_of, Leads}
-use Rattle.loops.specs.Fed.{fed_of}
 use Rattle.loops.proofs.Carrying.{anew_self, keeps, kept_self, carried_self, quiet-steps, led_steps}
 use Rattle.loops.proofs.Carrying.{due-later, due_self, due_as}
-
--- ---- which loop it is
--- what `run` asks
-pub record Asks (N K : ℕ) (fed : Bool) (h : Head) (e : Filter) (from far : ℕ) (l b : List ℤ) : Type 0 where
-  pub valid : Valid h l × (loudest (fed_of fed 0 b) ≤ M)
-  pub order_value : (N ≡ h.filter.tuning.order) × (h.pluck.left ≡ 0) × Leads h.waiting K e (length b) h.advance
-  pub from_value : (from ≡ (h.at + 2112 - h.filter.tuning.length) % 2112)
-      × (far ≡ (h.at + 2112 - e.tuning.length) % 2112)
-      × Apart h.at h.filter.tuning.length (length b) × Apart h.at e.tuning.length (length b)
-
--- nothing waits, and no eliminator runs
-pub none_leads : (W : Waiting) (e : Filter) (n a : ℕ) → W ≡ Idle → Leads W 0 e n a
-none_leads W e n a q = subst (λ (w : Waiting). Leads w 0 e n a) (sym q) refl
-
--- the order of the change that waits is K
-pub leads_by : (W : Waiting) (e : Filter) (n a : ℕ) {K : ℕ} → K ≡ e.tuning.order → Leads W e.tuning.order e n a
-    → Leads W K e n a
-leads_by W e n a q l = subst (λ (K : ℕ). Leads W K e n a) (sym q) l
-
--- an order that is neither 1 nor 2
-pub third : (N : ℕ) → 1 ≤ N → N ≤ 3 → (N ≡ 1 → ⊥) → (N ≡ 2 → ⊥) → 3 ≡ N
-third N l m a b = omega (arith, a, b)
 
 -- ---- before the first sample
 -- u is the state of the eliminator

@@ -23,23 +23,14 @@ pub fn by_order(line: &mut [i32; 2112], fed: bool, h: Head, from: usize, buffer:
     ensures { Went fed buffer.old h line.old buffer.new (after_of h result)
         line.new result.ran.done }
 {
-    let n = h.filter.tuning.order;
-    if n == 1 {
-        if fed {
-            return run(line, 1, 0, true, h, h.filter, from, from, buffer);
-        }
-        return run(line, 1, 0, false, h, h.filter, from, from, buffer);
+    match (h.filter.tuning.order, fed) {
+        (1, true) => run(line, 1, 0, true, h, h.filter, from, from, buffer),
+        (1, false) => run(line, 1, 0, false, h, h.filter, from, from, buffer),
+        (2, true) => run(line, 2, 0, true, h, h.filter, from, from, buffer),
+        (2, false) => run(line, 2, 0, false, h, h.filter, from, from, buffer),
+        (_, true) => run(line, 3, 0, true, h, h.filter, from, from, buffer),
+        (_, false) => run(line, 3, 0, false, h, h.filter, from, from, buffer),
     }
-    if n == 2 {
-        if fed {
-            return run(line, 2, 0, true, h, h.filter, from, from, buffer);
-        }
-        return run(line, 2, 0, false, h, h.filter, from, from, buffer);
-    }
-    if fed {
-        return run(line, 3, 0, true, h, h.filter, from, from, buffer);
-    }
-    run(line, 3, 0, false, h, h.filter, from, from, buffer)
 }
 
 // Renders samples of the buffer while a change waits, by the loop of both orders, that of the filter and that of the
@@ -63,58 +54,24 @@ pub fn by_orders(
     ensures { Went fed buffer.old h line.old buffer.new (after_of h result)
         line.new result.ran.done }
 {
-    let n = h.filter.tuning.order;
-    let k = e.tuning.order;
-    if n == 1 {
-        if k == 1 {
-            if fed {
-                return run(line, 1, 1, true, h, e, from, far, buffer);
-            }
-            return run(line, 1, 1, false, h, e, from, far, buffer);
-        }
-        if k == 2 {
-            if fed {
-                return run(line, 1, 2, true, h, e, from, far, buffer);
-            }
-            return run(line, 1, 2, false, h, e, from, far, buffer);
-        }
-        if fed {
-            return run(line, 1, 3, true, h, e, from, far, buffer);
-        }
-        return run(line, 1, 3, false, h, e, from, far, buffer);
+    match (h.filter.tuning.order, e.tuning.order, fed) {
+        (1, 1, true) => run(line, 1, 1, true, h, e, from, far, buffer),
+        (1, 1, false) => run(line, 1, 1, false, h, e, from, far, buffer),
+        (1, 2, true) => run(line, 1, 2, true, h, e, from, far, buffer),
+        (1, 2, false) => run(line, 1, 2, false, h, e, from, far, buffer),
+        (1, _, true) => run(line, 1, 3, true, h, e, from, far, buffer),
+        (1, _, false) => run(line, 1, 3, false, h, e, from, far, buffer),
+        (2, 1, true) => run(line, 2, 1, true, h, e, from, far, buffer),
+        (2, 1, false) => run(line, 2, 1, false, h, e, from, far, buffer),
+        (2, 2, true) => run(line, 2, 2, true, h, e, from, far, buffer),
+        (2, 2, false) => run(line, 2, 2, false, h, e, from, far, buffer),
+        (2, _, true) => run(line, 2, 3, true, h, e, from, far, buffer),
+        (2, _, false) => run(line, 2, 3, false, h, e, from, far, buffer),
+        (_, 1, true) => run(line, 3, 1, true, h, e, from, far, buffer),
+        (_, 1, false) => run(line, 3, 1, false, h, e, from, far, buffer),
+        (_, 2, true) => run(line, 3, 2, true, h, e, from, far, buffer),
+        (_, 2, false) => run(line, 3, 2, false, h, e, from, far, buffer),
+        (_, _, true) => run(line, 3, 3, true, h, e, from, far, buffer),
+        (_, _, false) => run(line, 3, 3, false, h, e, from, far, buffer),
     }
-    if n == 2 {
-        if k == 1 {
-            if fed {
-                return run(line, 2, 1, true, h, e, from, far, buffer);
-            }
-            return run(line, 2, 1, false, h, e, from, far, buffer);
-        }
-        if k == 2 {
-            if fed {
-                return run(line, 2, 2, true, h, e, from, far, buffer);
-            }
-            return run(line, 2, 2, false, h, e, from, far, buffer);
-        }
-        if fed {
-            return run(line, 2, 3, true, h, e, from, far, buffer);
-        }
-        return run(line, 2, 3, false, h, e, from, far, buffer);
-    }
-    if k == 1 {
-        if fed {
-            return run(line, 3, 1, true, h, e, from, far, buffer);
-        }
-        return run(line, 3, 1, false, h, e, from, far, buffer);
-    }
-    if k == 2 {
-        if fed {
-            return run(line, 3, 2, true, h, e, from, far, buffer);
-        }
-        return run(line, 3, 2, false, h, e, from, far, buffer);
-    }
-    if fed {
-        return run(line, 3, 3, true, h, e, from, far, buffer);
-    }
-    run(line, 3, 3, false, h, e, from, far, buffer)
 }
