@@ -23,7 +23,7 @@ use Rattle.voice.specs.Called.{Answer}
 use Rattle.voice.specs.Struct.{voice_of, state_of}
 use Rattle.voice.specs.Valid.{Fit, Valid}
 use Rattle.voice.specs.Called.{Called, On, lent}
-use Rattle.change.specs.declared.Changed.{Changed}
+use Rattle.std.specs.Prelude.{Ok}
 use Rattle.open.specs.Opened.{Opens}
 use Rattle.list.specs.Makes.{Makes}
 use Rattle.list.specs.Chain as Chain
@@ -99,7 +99,7 @@ pub loss-uncounted : Chain.Uncounted (loss 60000)
 unfolding count
 loss-uncounted v r = refl
 
-pub instant-made : Makes h₂ l₁ (instant t) (record { answer = record { refusal = 0; head = h₃ }; count = 1 })
+pub instant-made : Makes h₂ l₁ (instant t) (Ok (record { head = h₃; count = 1 }))
 unfolding number count
 instant-made = record {
   made = record {
@@ -150,7 +150,7 @@ chain =
     Chain.rendered (pos 1000000 ∷ negsuc 499999 ∷ []) (lends 2) first_on first_out
     (Chain.rendered (pos 0 ∷ []) (lends 1) second-on second-out
     (Chain.called refl loss-uncounted loss-called
-    (Chain.changed instant-made (Chain.rendered (pos 0 ∷ []) (lends 1) last_on last_out Chain.none))))
+    (Chain.changed instant-made.made instant-made.count (Chain.rendered (pos 0 ∷ []) (lends 1) last_on last_out Chain.none))))
 
 pub chaining : Chaining
 unfolding

@@ -71,8 +71,8 @@ follows {h} {l = l} v (called {c = c} still z e k) =
     let o = on l e v.line in
     before o (sym (z (voice_of h) (back (ring h.at l)))) (sym (put-none (state_of h l) c still))
     (follows o.valid k)
-follows {h} {l = l} v (changed {to = to} e k) =
-    before e.made e.count (sym (put-none (state_of h l) (instant to) refl)) (follows e.made.valid k)
+follows {h} {l = l} v (changed {to = to} e i k) =
+    before e i (sym (put-none (state_of h l) (instant to) refl)) (follows e.valid k)
 follows {h} {l = l} v (rendered xs over e i k) =
     before e (block-counts (voice_of h) (back (ring h.at l)) xs (length over)) (heard-is over e i)
     (follows e.valid k)

@@ -1,20 +1,17 @@
 -- Calls that a caller makes one after the other, each on what the one before left, of which each meets its
 -- contract: demands 2 and 3 hold of them as of a list. proofs/Chain.antt proves `Chained`.
-use Rattle.std.specs.Prelude.{◌≡◌, cond, List, [], ◌∷◌, ◌++◌, ℕ, eqb, ℤ, length, Result}
-use Rattle.refusal.specs.declared.Refusal.{Refusal}
+use Rattle.std.specs.Prelude.{◌≡◌, cond, List, [], ◌∷◌, ◌++◌, ℕ, eqb, ℤ, length}
+use Rattle.line.specs.Ring.{ring}
 use Rattle.rule.specs.Voice.{Tuning, Voice}
 use Rattle.rule.specs.Calls.{Call, Opening, block, instant, inputs, count}
-use Rattle.rule.specs.State.{fresh, from, puts, numbers, counts}
+use Rattle.rule.specs.State.{back, fresh, from, puts, numbers, counts}
 use Rattle.rule.specs.Click.{ClickFigure}
 use Rattle.rule.specs.OwnFigure.{OwnClickFigure}
 use Rattle.voice.specs.declared.Head.{Head}
 use Rattle.voice.specs.Called.{Answer}
-use Rattle.voice.specs.Struct.{state_of}
+use Rattle.voice.specs.Struct.{voice_of, state_of}
 use Rattle.voice.specs.Valid.{Valid}
 use Rattle.voice.specs.Called.{Called, On, lent}
-use Rattle.change.specs.declared.Changed.{Changed}
-use Rattle.change.specs.Instantly.{changed_of, count_of}
-use Rattle.list.specs.Makes.{Makes}
 
 -- the samples that a block has put out, which are in the lent output unless it was refused
 abbrev pub heard : ℕ → List ℤ → List ℤ
@@ -34,8 +31,8 @@ pub data Chain : Head → List ℤ → List Call → List ℕ → List ℕ → L
       → Chain h l (c ∷ cs) (a.refusal ∷ ns) (0 ∷ ks) ys g k
   -- an instant change, which reads the line, with its count
   changed : {h g : Head} {l k : List ℤ} {to : Tuning} {cs : List Call} {ns ks : List ℕ} {ys : List ℤ}
-      {r : Result Changed Refusal} → Makes h l (instant to) r → Chain (changed_of h r).head l cs ns ks ys g k
-      → Chain h l (instant to ∷ cs) ((changed_of h r).refusal ∷ ns) (count_of r ∷ ks) ys g k
+      {a : Answer} {j : ℕ} → On h l (instant to) a l → j ≡ count (voice_of h) (back (ring h.at l)) (instant to)
+      → Chain a.head l cs ns ks ys g k → Chain h l (instant to ∷ cs) (a.refusal ∷ ns) (j ∷ ks) ys g k
   -- a block with the input xs, whose lent output was before and then is out
   rendered : {h g : Head} {l m k : List ℤ} {cs : List Call} {ns ks : List ℕ} {ys : List ℤ} {a : Answer}
       (xs before : List ℤ) {out : List ℤ} → On h l (block xs (length before)) a m
