@@ -11,7 +11,7 @@ use Rattle.open.specs.Opened.{Opened, Opens}
 use Rattle.packed.specs.Words.{head_of}
 use Rattle.list.specs.Chain.{Chain, heard, Chained}
 use Rattle.list.proofs.Chain.{chained}
-use Rattle.kept.specs.Lent.{answer_of, opened_of}
+use Rattle.kept.specs.Lent.{opened_of}
 use Rattle.kept.specs.Since.{Since, opened, called, changed, rendered, resumed, Lists}
 
 -- one chain after another
@@ -20,7 +20,7 @@ then : {h g f : Head} {l k m : List ℤ} {cs ds : List Call} {ns os ks js : List
     → Chain h l (cs ++ ds) (ns ++ os) (ks ++ js) (ys ++ zs) f m
 then Chain.none d = d
 then (Chain.called still z e c) d = Chain.called still z e (then c d)
-then (Chain.changed e c) d = Chain.changed e (then c d)
+then (Chain.changed e i c) d = Chain.changed e i (then c d)
 then (Chain.resumed e w c) d = Chain.resumed e w (then c d)
 then {h} {f = f} {l = l} {m = m} {ds = ds} {os = os} {js = js} {zs = zs}
     (Chain.rendered {cs = bs} {ns = qs} {ks = rs} {ys = xs} {a = a} ins lends {out = out} e i c) d =
@@ -49,9 +49,7 @@ through : {o : Opening} {cs : List Call} {ns ks : List ℕ} {ys : List ℤ} {ws 
     → Since o cs ns ks ys ws l → Through o cs ns ks ys (head_of ws) l
 through (opened {n} {ws} {l} p) = record { first = opened_of n ws l; opens = p; chain = Chain.none }
 through (called {ys = ys} s still z e) = on (through s) (Chain.called still z e Chain.none) (append-nil ys)
-through (changed {ys = ys} {us = us} {n = n} {j = j} s e i) =
-    on (through s) (Chain.changed {r = record { answer = answer_of n us; count = j }} (record { made = e; count = i }) Chain.none)
-    (append-nil ys)
+through (changed {ys = ys} s e i) = on (through s) (Chain.changed e i Chain.none) (append-nil ys)
 through (rendered {ys = ys} {n = n} s xs before {out = out} e i) =
     on (through s) (Chain.rendered xs before e i Chain.none)
     (ap (λ (q : List ℤ). ys ++ q) (append-nil (heard n out)))

@@ -1,6 +1,7 @@
 // Samples from a voice in lent memory: a block, with the caller's input or with none.
 ghost use Rattle.std.specs.Prelude.{◌≡◌, true, ◌≤◌, pos, length, replicate};
 ghost use Rattle.samples.specs.Samples.{loudest};
+ghost use Rattle.refusal.specs.Numbers.{code_of};
 ghost use Rattle.rule.specs.Calls.{block as Block};
 ghost use Rattle.voice.specs.Valid.{Valid};
 ghost use Rattle.voice.specs.Called.{On, lent};
@@ -10,6 +11,7 @@ ghost use Rattle.kept.specs.Lent.{answer_of};
 
 use loops::carried::after;
 use packed::{pack, unpack};
+use refusal::Refusal;
 use render::{begin, rest};
 use voice::Head;
 
@@ -33,47 +35,42 @@ fn unfed(line: &mut [i32; 2112], head: Head, output: &mut [i32]) -> Head
 fn is_silent(input: &[i32], room: usize) -> bool
     ensures { result ≡ true → (length input.now ≡ room) × (loudest input.now ≤ 0) }
 {
-    if input.len() != room {
-        return false;
-    }
-    !samples::sounds(input)
+    input.len() == room && !samples::sounds(input)
 }
 
 // A block: an output for each input.
-pub fn feed(head: &mut [u32; 27], line: &mut [i32; 2112], input: &[i32], output: &mut [i32]) -> u32
+pub fn feed(
+    head: &mut [u32; 27],
+    line: &mut [i32; 2112],
+    input: &[i32],
+    output: &mut [i32],
+) -> Result<(), Refusal>
     requires { Valid (head_of head.old) line.old }
     ensures on { On (head_of head.old) line.old
-        (Block input.now (length output.old)) (answer_of result head.new)
+        (Block input.now (length output.old)) (answer_of (code_of result) head.new)
         line.new }
     ensures output_after { output.new
         ≡ lent (head_of head.old) line.old
         (Block input.now (length output.old)) output.old }
 {
     if is_silent(input, output.len()) {
-        return play(head, line, output);
+        play(head, line, output);
+        return Ok(());
     }
-    let h = unpack(head);
-    let a = block::block(line, h, input, output);
-    let k = a.head;
-    let w = pack(k);
-    *head = w;
-    a.refusal
+    *head = pack(block::block(line, unpack(head), input, output)?);
+    Ok(())
 }
 
-// A block of zeros, as long as the output: no input is read.
-pub fn play(head: &mut [u32; 27], line: &mut [i32; 2112], output: &mut [i32]) -> u32
+// A block of zeros, as long as the output, which is never refused: no input is read.
+pub fn play(head: &mut [u32; 27], line: &mut [i32; 2112], output: &mut [i32])
     requires { Valid (head_of head.old) line.old }
     ensures on { On (head_of head.old) line.old
         (Block (replicate (length output.old) (pos 0)) (length output.old))
-        (answer_of result head.new) line.new }
+        (answer_of 0 head.new) line.new }
     ensures output_after { output.new
         ≡ lent (head_of head.old) line.old
         (Block (replicate (length output.old) (pos 0)) (length output.old))
         output.old }
 {
-    let h = unpack(head);
-    let k = unfed(line, h, output);
-    let w = pack(k);
-    *head = w;
-    0
+    *head = pack(unfed(line, unpack(head), output));
 }

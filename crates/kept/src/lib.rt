@@ -3,14 +3,18 @@
 // gives and each routine hands on. In `change`, the changes; in `blocks`, the samples.
 #![tactic(auto)]
 
+ghost use Rattle.refusal.specs.Numbers.{code_of};
 ghost use Rattle.rule.specs.Calls.{loss as Loss, pluck as Plucking};
 ghost use Rattle.voice.specs.Valid.{Fit};
 ghost use Rattle.voice.specs.Called.{Called};
-ghost use Rattle.open.specs.Opened.{Opens};
+ghost use Rattle.open.specs.Opened.{opening_of, Opens};
 ghost use Rattle.packed.specs.Words.{head_of};
 ghost use Rattle.kept.specs.Lent.{answer_of, opened_of};
 
+use open::Opening;
 use packed::{pack, unpack};
+use refusal::Refusal;
+use voice::Pluck;
 
 pub mod blocks;
 pub mod changes;
@@ -21,47 +25,32 @@ pub mod waits;
 pub fn open_voice(
     head: &mut [u32; 27],
     line: &mut [i32; 2112],
-    order: u32,
-    length: u32,
-    delay: u32,
-    loss: u32,
-    advance: u32,
-) -> u32
-    ensures { Opens (record { N = order; L = length; d = delay; G = loss; Na = advance })
-        (opened_of result head.new line.new) }
+    opening: Opening,
+) -> Result<(), Refusal>
+    ensures { Opens (opening_of opening) (opened_of (code_of result) head.new line.new) }
 {
-    let o = open::open(order, length, delay, loss, advance);
-    let l = o.voice.line;
-    *line = l;
-    let h = o.voice.head;
-    let w = pack(h);
-    *head = w;
-    o.refusal
+    let opened = open::open(opening);
+    let silence = opened.voice.line;
+    *line = silence;
+    *head = pack(opened.voice.head);
+    opened.answer
 }
 
 // Sets the loss.
-pub fn set_loss(head: &mut [u32; 27], g: u32) -> u32
+pub fn set_loss(head: &mut [u32; 27], g: u32) -> Result<(), Refusal>
     requires { Fit (head_of head.old) }
-    ensures { Called (head_of head.old) (Loss g) (answer_of result head.new) }
+    ensures { Called (head_of head.old) (Loss g) (answer_of (code_of result) head.new) }
 {
-    let h = unpack(head);
-    let a = open::calls::loss(h, g);
-    let k = a.head;
-    let w = pack(k);
-    *head = w;
-    a.refusal
+    *head = pack(open::calls::loss(unpack(head), g)?);
+    Ok(())
 }
 
 // Starts a pluck in place of the rest of the old one.
-pub fn pluck(head: &mut [u32; 27], amplitude: u32, count: u32, seed: u32) -> u32
+pub fn pluck(head: &mut [u32; 27], pluck: Pluck) -> Result<(), Refusal>
     requires { Fit (head_of head.old) }
-    ensures { Called (head_of head.old) (Plucking amplitude count seed)
-        (answer_of result head.new) }
+    ensures { Called (head_of head.old) (Plucking pluck.amplitude pluck.left pluck.noise)
+        (answer_of (code_of result) head.new) }
 {
-    let h = unpack(head);
-    let a = open::calls::pluck(h, amplitude, count, seed);
-    let k = a.head;
-    let w = pack(k);
-    *head = w;
-    a.refusal
+    *head = pack(open::calls::pluck(unpack(head), pluck)?);
+    Ok(())
 }

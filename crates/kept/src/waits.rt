@@ -26,6 +26,5 @@ pub fn waits(head: &[u32; 27]) -> u32
     ensures { result ≡ awaited (voice_of (head_of head.now)) }
 {
     let h = unpack(head);
-    let w = h.waiting;
-    left(h.advance, w)
+    left(h.advance, h.waiting)
 }

@@ -12,16 +12,3 @@ returns-then-is_silent c =
       on = c.play.ensures.on;
       output_after = c.play.ensures.output_after;
     })
-
-pub block-a-requires : goal.block-a-requires
-block-a-requires c = rw c.unpack-h.ensures c.requires
-
-pub pack-w-requires : goal.pack-w-requires
-pack-w-requires c = c.block-a.ensures.on.valid.fit
-
-pub returns : goal.returns
-returns c =
-    rw (← c.unpack-h.ensures, c.pack-w.ensures) (record {
-      on = c.block-a.ensures.on;
-      output_after = c.block-a.ensures.output_after;
-    })

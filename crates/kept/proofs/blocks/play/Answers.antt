@@ -14,20 +14,20 @@ zeros-quiet : (n : ℕ) → loudest (replicate n (pos 0)) ≤ M
 zeros-quiet zero = omega arith
 zeros-quiet (suc n) = omega (arith, zeros-quiet n)
 
-pub unfed-k-requires : goal.unfed-k-requires
-unfed-k-requires c = rw c.unpack-h.ensures c.requires
+pub unfed-requires : goal.unfed-requires
+unfed-requires c = rw c.unpack.ensures c.requires
 
 pub returns : goal.returns
 returns c =
     let s = c.args in
-    let h = c.unpack-h.result in
+    let h = c.unpack.result in
     let l = s.line.now in
     let n = length s.output.now in
     let xs = replicate n (pos 0) in
     let e = plays (voice_of h) xs n (length-replicate n (pos 0)) (zeros-quiet n) in
-    let f = c.unfed-k.ensures in
-    let k = c.unfed-k.new in
-    rw (← c.unpack-h.ensures, c.pack-w.ensures) (record {
-      on = block_on h l xs n e c.unfed-k.result k.line f.valid f.after;
+    let f = c.unfed.ensures in
+    let k = c.unfed.new in
+    rw (← c.unpack.ensures, c.pack.ensures) (record {
+      on = block_on h l xs n e c.unfed.result k.line f.valid f.after;
       output_after = block-lent h l xs n e k.output s.output.now f.out;
     })
