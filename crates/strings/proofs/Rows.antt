@@ -9,11 +9,13 @@ use borrow.Author.Tests.{lt-ltb}
 use lib.IntN.{ℤ}
 use lib.ListN.{length, get_or, set, length-set}
 use lib.Seq.{get_or-set_same, get_or-set_other, set-get_or}
+use Rattle.std.specs.Prelude.{Ok}
 use Rattle.refusal.specs.Limits.{refusal}
 use Rattle.refusal.specs.Returned.{Kept}
 use Rattle.refusal.proofs.Returned.{is-met}
 use Rattle.rule.specs.Calls as C
 use Rattle.rule.specs.Calls.{Call}
+use Rattle.form.specs.Loads.{left}
 use Rattle.voice.specs.Struct.{state_of}
 use Rattle.voice.specs.Valid.{Valid}
 use Rattle.voice.specs.Called as Voice
@@ -21,9 +23,9 @@ use Rattle.voice.proofs.Called as Calls
 use Rattle.packed.specs.Words.{head_of}
 use Rattle.kept.specs.Lent.{answer_of}
 use Rattle.instrument.specs.Strings.{Own, calls, on, Strings, string_limit, own_limits, number, own}
-use Rattle.instrument.specs.Strings.{play, counted, lent}
-use Rattle.instrument.proofs.Apart.{nothing, others, itself, number-itself}
-use Rattle.strings.specs.Rows.{strings_of, Heads, Voices, Called, Played}
+use Rattle.instrument.specs.Strings.{play, own_count, counted, lent}
+use Rattle.instrument.proofs.Apart.{nothing, others, itself, number-itself, count-itself, lent-itself}
+use Rattle.strings.specs.Rows.{strings_of, Heads, Voices, RowOf, Called, Played}
 
 -- ---- 24
 pub number-above : (s : Strings) (k : ℕ) (a : Own) → 5 < k → 24 ≡ number s (on k a)
@@ -38,20 +40,31 @@ pub none_lent : (s : Strings) (k : ℕ) (old : List ℕ) → 5 < k → old ≡ l
 unfolding lent
 none_lent s k old h = rw (lt-ltb 5 k h)
 
-pub played-above : {hs : List (List ℕ)} {ls : List (List ℤ)} (k : ℕ) (a : Own) → Voices hs ls → 5 < k
-    → Played hs ls (on k a) 24 hs ls
-played-above {hs} {ls} k a v h = record {
-  number = number-above (strings_of hs ls) k a h;
+pub played_above : {hs : List (List ℕ)} {ls : List (List ℤ)} {k n : ℕ} {a : Own} → Voices hs ls → n ≡ 24 → 5 < k
+    → Played hs ls (on k a) n hs ls
+played_above {hs} {ls} {k} {n} {a} v e h = record {
+  number = e ∙ number-above (strings_of hs ls) k a h;
   states = λ j l. sym (nothing (strings_of hs ls) k a h j);
   voices = v;
 }
 
-pub called-above : {hs : List (List ℕ)} (k : ℕ) (a : Own) → 5 < k → Called hs k a 24 hs
-called-above {hs} k a h = record {
-  number = λ ls. number-above (strings_of hs ls) k a h;
+pub called_above : {hs : List (List ℕ)} {k n : ℕ} {a : Own} → n ≡ 24 → 5 < k → Called hs k a n hs
+called_above {hs} {k} {n} {a} e h = record {
+  number = λ ls. e ∙ number-above (strings_of hs ls) k a h;
   states = λ ls j l. sym (nothing (strings_of hs ls) k a h j);
   voices = λ ls v. v;
 }
+
+-- ---- a string at its row
+module _ (s : Strings) {k i : ℕ} where
+  pub number-row : (a : Own) → RowOf k (Ok i) → refusal (own_limits (s i) a) ≡ number s (on k a)
+  number-row a h = rw (← h.0) (sym (number-itself i (omega (arith, h.0, h.1)) s a))
+
+  pub count-row : (a : Own) → RowOf k (Ok i) → own_count (s i) a ≡ counted s k a
+  count-row a h = rw (← h.0) (sym (count-itself i (omega (arith, h.0, h.1)) s a))
+
+  pub lent-row : (old : List ℕ) → RowOf k (Ok i) → left (s i) old ≡ lent s k old
+  lent-row old h = rw (← h.0) (sym (lent-itself i (omega (arith, h.0, h.1)) s old))
 
 -- ---- a row that is set
 module _ (hs : List (List ℕ)) (ls : List (List ℤ)) (k : ℕ) (w : List ℕ) (m : List ℤ) where
@@ -84,47 +97,54 @@ module _ (hs : List (List ℕ)) (ls : List (List ℤ)) (k : ℕ) (w : List ℕ) 
       go j l (yes i) = rw (i, get_or-set_same hs k w [] p, q) g
       go j l (no f) = rw (get_or-set_other hs k j w [] f, get_or-set_other ls k j m [] f) (v.valid j l)
 
--- ---- a call on row k
-module _ {hs : List (List ℕ)} {ls : List (List ℤ)} (k : ℕ) (a : Own) (w : List ℕ) (v : Voices hs ls)
-    (h : k ≤ 5) where
-  pub played : {n : ℕ} (m : List ℤ) → n ≡ refusal (own_limits (strings_of hs ls k) a)
-      → state_of (head_of w) m ≡ own (strings_of hs ls k) a → Valid (head_of w) m
-      → Played hs ls (on k a) n (set hs k w) (set ls k m)
-  played m e s g =
-      let p : k < length hs = omega (arith, v.heads) in
-      let q = get_or-set_same ls k m [] (omega (arith, v.lines)) in
-      record {
-        number = e ∙ sym (number-itself k h (strings_of hs ls) a);
-        states = λ j l. states hs ls k w m p q a h s j;
-        voices = voices hs ls k w m p q v g;
-      }
+-- ---- a call on row k, which is at i
+module _ {hs : List (List ℕ)} {ls : List (List ℤ)} {k i : ℕ} (a : Own) (w : List ℕ) (v : Voices hs ls)
+    (h : RowOf k (Ok i)) where
+  pub played : {n : ℕ} (m : List ℤ) → n ≡ refusal (own_limits (strings_of hs ls i) a)
+      → state_of (head_of w) m ≡ own (strings_of hs ls i) a → Valid (head_of w) m
+      → Played hs ls (on k a) n (set hs i w) (set ls i m)
+  played {n} m e s g =
+      let p : i < length hs = omega (arith, h.0, h.1, v.heads) in
+      let q = get_or-set_same ls i m [] (omega (arith, h.0, h.1, v.lines)) in
+      rw (← h.0) (record {
+        number = e ∙ sym (number-itself i (omega (arith, h.0, h.1)) (strings_of hs ls) a);
+        states = λ j l. states hs ls i w m p q a (omega (arith, h.0, h.1)) s j;
+        voices = voices hs ls i w m p q v g;
+      })
 
   -- that leaves its line
-  pub played-still : {n : ℕ} → n ≡ refusal (own_limits (strings_of hs ls k) a)
-      → state_of (head_of w) (get_or ls k []) ≡ own (strings_of hs ls k) a → Valid (head_of w) (get_or ls k [])
-      → Played hs ls (on k a) n (set hs k w) ls
+  pub played-still : {n : ℕ} → n ≡ refusal (own_limits (strings_of hs ls i) a)
+      → state_of (head_of w) (get_or ls i []) ≡ own (strings_of hs ls i) a → Valid (head_of w) (get_or ls i [])
+      → Played hs ls (on k a) n (set hs i w) ls
   played-still {n} e s g =
-      subst (λ (ks : List (List ℤ)). Played hs ls (on k a) n (set hs k w) ks) (set-get_or ls k [])
-      (played {n = n} (get_or ls k []) e s g)
+      subst (λ (ks : List (List ℤ)). Played hs ls (on k a) n (set hs i w) ks) (set-get_or ls i [])
+      (played {n = n} (get_or ls i []) e s g)
 
 -- on its words alone
-pub called : {hs : List (List ℕ)} (k : ℕ) (c : Call) {n : ℕ} (w : List ℕ) → Heads hs → k ≤ 5
-    → Voice.Called (head_of (get_or hs k [])) c (answer_of n w) → Called hs k (calls c) n (set hs k w)
-unfolding C.number
-called {hs} k c {n} w f h r = record {
-  number = λ ls. r.number ∙ sym (number-itself k h (strings_of hs ls) (calls c));
-  states = λ ls j l.
-      subst (λ (ks : List (List ℤ)). strings_of (set hs k w) ks j ≡ play (strings_of hs ls) (on k (calls c)) j)
-      (set-get_or ls k [])
-      (states hs ls k w (get_or ls k []) p (kept ls) (calls c) h (r.state (get_or ls k [])) j);
-  voices = λ ls v.
-      subst (λ (ks : List (List ℤ)). Voices (set hs k w) ks) (set-get_or ls k [])
-      (voices hs ls k w (get_or ls k []) p (kept ls) v
-      (Calls.on (get_or ls k []) r (v.valid k h).line).valid);
-}
-  where
-    p : k < length hs
-    p = omega (arith, f.six)
+module _ {hs : List (List ℕ)} {k i : ℕ} (c : Call) {n : ℕ} (w : List ℕ) (f : Heads hs) (h : RowOf k (Ok i))
+    (r : Voice.Called (head_of (get_or hs i [])) c (answer_of n w)) where
+  place : i < length hs
+  place = omega (arith, h.0, h.1, f.six)
 
-    kept : (ls : List (List ℤ)) → get_or (set ls k (get_or ls k [])) k [] ≡ get_or ls k []
-    kept ls = ap (λ (ks : List (List ℤ)). get_or ks k []) (set-get_or ls k [])
+  least : i ≤ 5
+  least = omega (arith, h.0, h.1)
+
+  kept : (ls : List (List ℤ)) → get_or (set ls i (get_or ls i [])) i [] ≡ get_or ls i []
+  kept ls = ap (λ (ks : List (List ℤ)). get_or ks i []) (set-get_or ls i [])
+
+  own-call : Called hs i (calls c) n (set hs i w)
+  unfolding C.number
+  own-call = record {
+    number = λ ls. r.number ∙ sym (number-itself i least (strings_of hs ls) (calls c));
+    states = λ ls j l.
+        subst (λ (ks : List (List ℤ)). strings_of (set hs i w) ks j ≡ play (strings_of hs ls) (on i (calls c)) j)
+        (set-get_or ls i [])
+        (states hs ls i w (get_or ls i []) place (kept ls) (calls c) least (r.state (get_or ls i [])) j);
+    voices = λ ls v.
+        subst (λ (ks : List (List ℤ)). Voices (set hs i w) ks) (set-get_or ls i [])
+        (voices hs ls i w (get_or ls i []) place (kept ls) v
+        (Calls.on (get_or ls i []) r (v.valid i least).line).valid);
+  }
+
+  pub called : Called hs k (calls c) n (set hs i w)
+  called = subst (λ (j : ℕ). Called hs j (calls c) n (set hs i w)) h.0 own-call

@@ -1,6 +1,8 @@
 -- The six strings that a host's rows are, 27 words and a line for each; what the calls on them require and
 -- hand on; and what a call returns and leaves, as crate instrument has it (document 02, L11).
-use Rattle.std.specs.Prelude.{◌≡◌, List, [], ℕ, ◌≤◌, ℤ, length, get_or}
+use Rattle.std.specs.Prelude.{◌≡◌, List, [], ℕ, ◌≤◌, ◌<◌, ℤ, length, get_or, Result, Ok, Err}
+use Rattle.refusal.specs.declared.Refusal.{Refusal}
+use Rattle.refusal.specs.Numbers.{number_of}
 use Rattle.voice.specs.Struct.{state_of}
 use Rattle.voice.specs.Valid.{Fit, Valid}
 use Rattle.packed.specs.Words.{head_of}
@@ -21,6 +23,11 @@ pub record Voices (hs : List (List ℕ)) (ls : List (List ℤ)) : Type 0 where
   pub heads : length hs ≡ 6
   pub lines : length ls ≡ 6
   pub valid : (k : ℕ) → k ≤ 5 → Valid (head_of (get_or hs k [])) (get_or ls k [])
+
+-- the row of string k, or 24: "24 string number above 5"
+abbrev pub RowOf : ℕ → Result ℕ Refusal → Type 0
+RowOf k (Ok i) = (i ≡ k) × (k ≤ 5)
+RowOf k (Err r) = (number_of r ≡ 24) × (5 < k)
 
 -- ---- what a call returns and leaves
 -- a call that neither reads nor writes a line: it returned n and left the words gs, on whatever lines

@@ -4,79 +4,79 @@
 // store and the load, of crate snapshot. Crate mix has the block of all six.
 #![tactic(auto)]
 
+ghost use Rattle.refusal.specs.Numbers.{code_of};
 ghost use Rattle.rule.specs.Calls.{loss as Loss, pluck as Plucking};
 ghost use Rattle.instrument.specs.Strings.{on, opens, calls};
-ghost use Rattle.strings.specs.Rows.{Heads, Voices, Called, Played, Resets};
+ghost use Rattle.open.specs.Opened.{opening_of};
+ghost use Rattle.strings.specs.Rows.{Heads, Voices, RowOf, Called, Played, Resets};
 
+use open::Opening;
 use packed::pack;
+use refusal::{Refusal, within};
+use voice::{Pluck, Tuning};
 
 pub mod changes;
 pub mod stores;
+
+// What is refused: the strings that a reset leaves are opened with it.
+const NOTHING: Opening = Opening {
+    tuning: Tuning {
+        order: 0,
+        length: 0,
+        delay: 0,
+    },
+    loss: 0,
+    advance: 0,
+};
+
+// The row of a string: 24 where there is no such string.
+fn row(string: u32) -> Result<usize, Refusal>
+    ensures { RowOf string result }
+{
+    within(Refusal::NoString, string, 0, 5)?;
+    Ok(string as usize)
+}
 
 // Opens a voice on a string: a refused opening leaves the refusal voice there.
 pub fn open_string(
     heads: &mut [[u32; 27]; 6],
     lines: &mut [[i32; 2112]; 6],
     string: u32,
-    order: u32,
-    length: u32,
-    delay: u32,
-    loss: u32,
-    advance: u32,
-) -> u32
+    opening: Opening,
+) -> Result<(), Refusal>
     requires { Voices heads.old lines.old }
-    ensures { Played heads.old lines.old
-        (on string (opens (record { N = order; L = length; d = delay; G = loss; Na = advance }))) result
-        heads.new lines.new }
+    ensures { Played heads.old lines.old (on string (opens (opening_of opening))) (code_of result) heads.new lines.new }
 {
-    if 5 < string {
-        return refusal::STRING;
-    }
-    let k = string as usize;
-    kept::open_voice(
-        &mut heads[k],
-        &mut lines[k],
-        order,
-        length,
-        delay,
-        loss,
-        advance,
-    )
+    let k = row(string)?;
+    kept::open_voice(&mut heads[k], &mut lines[k], opening)
 }
 
 // Sets the loss of a string.
-pub fn set_loss(heads: &mut [[u32; 27]; 6], string: u32, g: u32) -> u32
+#[tactic(auto, using(crate::proofs::Rows::called_above, crate::proofs::Rows::called))]
+pub fn set_loss(heads: &mut [[u32; 27]; 6], string: u32, g: u32) -> Result<(), Refusal>
     requires { Heads heads.old }
-    ensures { Called heads.old string (calls (Loss g)) result heads.new }
+    ensures { Called heads.old string (calls (Loss g)) (code_of result) heads.new }
 {
-    if 5 < string {
-        return refusal::STRING;
-    }
-    let k = string as usize;
-    kept::set_loss(&mut heads[k], g)
+    kept::set_loss(&mut heads[row(string)?], g)
 }
 
 // Starts a pluck on a string in place of the rest of its old one.
-pub fn pluck(heads: &mut [[u32; 27]; 6], string: u32, amplitude: u32, count: u32, seed: u32) -> u32
+#[tactic(auto, using(crate::proofs::Rows::called_above, crate::proofs::Rows::called))]
+pub fn pluck(heads: &mut [[u32; 27]; 6], string: u32, pluck: Pluck) -> Result<(), Refusal>
     requires { Heads heads.old }
-    ensures { Called heads.old string (calls (Plucking amplitude count seed)) result
+    ensures { Called heads.old string (calls (Plucking pluck.amplitude pluck.left pluck.noise)) (code_of result)
         heads.new }
 {
-    if 5 < string {
-        return refusal::STRING;
-    }
-    let k = string as usize;
-    kept::pluck(&mut heads[k], amplitude, count, seed)
+    kept::pluck(&mut heads[row(string)?], pluck)
 }
 
 // Makes six strings of whatever the memory held, each of them Open's refusal voice.
 pub fn reset(heads: &mut [[u32; 27]; 6], lines: &mut [[i32; 2112]; 6])
     ensures { Resets heads.new lines.new }
 {
-    let o = open::open(0, 0, 0, 0, 0);
-    let h = o.voice.head;
-    let w = pack(h);
-    *heads = [w; 6];
-    let l = o.voice.line;
-    *lines = [l; 6];
+    let opened = open::open(NOTHING);
+    let head = pack(opened.voice.head);
+    let line = opened.voice.line;
+    *heads = [head; 6];
+    *lines = [line; 6];
 }

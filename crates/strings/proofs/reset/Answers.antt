@@ -8,7 +8,7 @@ use lib.ListN.{replicate, length-replicate, get_or-replicate}
 use Rattle.rule.specs.Calls.{Opening}
 use Rattle.voice.specs.declared.Head.{Head}
 use Rattle.voice.specs.Struct.{state_of}
-use Rattle.open.specs.Opened.{Opened, Opens}
+use Rattle.open.specs.Opened.{Opened, opened, Opens}
 use Rattle.packed.specs.Words.{head_of}
 use Rattle.form.proofs.Theorems.{refused_opens}
 use Rattle.strings.specs.Rows.{Resets}
@@ -37,4 +37,4 @@ resets r w o e = record {
 
 pub returns : goal.returns
 returns c =
-    resets c.open-o.result c.pack-w.result c.open-o.ensures c.pack-w.ensures
+    resets (opened c.open-opened.result) c.pack-head.result c.open-opened.ensures c.pack-head.ensures

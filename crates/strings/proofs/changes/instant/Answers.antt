@@ -1,37 +1,35 @@
 -- `strings::changes::instant` meets its contract: 24 and the count 0, or the call on the row.
-use mathlib.Core.Path.{sym, ◌∙◌}
-use native.Mathlib.Omega.{arith}
+use Rattle.std.proofs.Common.{rules, ◌≡◌, ◌<◌}
+use mathlib.Core.Path.{◌∙◌}
+use Rattle.std.specs.Prelude.{Ok}
+use Rattle.refusal.specs.Numbers.{code_of, beside}
 use Rattle.rule.specs.Calls as C
 use Rattle.rule.specs.Calls.{instant}
-use Rattle.rule.specs.Voice.{tuning}
+use Rattle.voice.specs.Struct.{tuning_of}
 use Rattle.instrument.specs.Strings.{calls}
-use Rattle.instrument.proofs.Apart.{count-itself}
-use Rattle.strings.specs.Rows.{strings_of}
-use Rattle.strings.proofs.Rows.{played-above, played-still, none-counted}
+use Rattle.strings.specs.Rows.{strings_of, RowOf}
+use Rattle.strings.proofs.Rows.{played_above, played-still, none-counted, count-row}
 use Rattle.strings.proofs.changes.instant.Goals as goal
 
-pub returns-then-string-gt5 : goal.returns-then-string-gt5
-returns-then-string-gt5 c =
+pub returns-in_err-k : goal.returns-in_err-k
+returns-in_err-k c =
     let s = c.args in
-    let a = calls (instant (tuning s.order s.length s.delay)) in
+    let e : code_of c.from_residual.result ≡ 24 = search rules in
+    let z : beside c.from_residual.result ≡ 0 = search rules in
+    let h : 5 < s.string = search rules in
     record {
-      played = played-above s.string a c.requires (omega (arith, c.if-string-gt5.true));
-      count_after =
-          none-counted (strings_of s.heads.now s.lines.now) s.string a (omega (arith, c.if-string-gt5.true));
+      played = played_above c.requires e h;
+      count = z ∙ none-counted (strings_of s.heads.now s.lines.now) s.string (calls (instant (tuning_of s.to))) h;
     }
-
-pub instant-requires : goal.instant-requires
-instant-requires c =
-    c.requires.valid c.args.string (omega arith)
 
 pub returns : goal.returns
 unfolding C.number
 returns c =
-    let k = c.args.string in
-    let a = calls (instant (tuning c.args.order c.args.length c.args.delay)) in
+    let s = c.args in
+    let a = calls (instant (tuning_of s.to)) in
+    let h : RowOf s.string (Ok c.in_ok-k.k) = search rules in
     let r = c.instant.ensures in
     record {
-      played = played-still k a _ c.requires (omega arith) r.on.number r.on.state r.on.valid;
-      count_after =
-          r.count_after ∙ sym (count-itself k (omega arith) (strings_of c.args.heads.now c.args.lines.now) a);
+      played = played-still a _ c.requires h r.on.number r.on.state r.on.valid;
+      count = r.count ∙ count-row (strings_of s.heads.now s.lines.now) a h;
     }

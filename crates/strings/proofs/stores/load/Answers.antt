@@ -1,17 +1,22 @@
 -- `strings::stores::load` meets its contract: 24, or the load on the row.
-use native.Mathlib.Omega.{arith}
+use Rattle.std.proofs.Common.{rules, ◌≡◌, ◌<◌}
+use Rattle.std.specs.Prelude.{Ok}
+use Rattle.refusal.specs.Numbers.{code_of}
 use Rattle.form.specs.Loads.{load_number, loads}
 use Rattle.instrument.specs.Strings as I
-use Rattle.strings.proofs.Rows.{played-above, played}
+use Rattle.strings.specs.Rows.{RowOf}
+use Rattle.strings.proofs.Rows.{played_above, played}
 use Rattle.strings.proofs.stores.load.Goals as goal
 
-pub returns-then-string-gt5 : goal.returns-then-string-gt5
-returns-then-string-gt5 c =
-    played-above c.args.string (I.load c.args.bytes.now) c.requires (omega (arith, c.if-string-gt5.true))
+pub returns-in_err-k : goal.returns-in_err-k
+returns-in_err-k c =
+    let e : code_of c.from_residual.result ≡ 24 = search rules in
+    let h : 5 < c.args.string = search rules in
+    played_above c.requires e h
 
 pub returns : goal.returns
 unfolding loads load_number
 returns c =
+    let h : RowOf c.args.string (Ok c.in_ok-k.k) = search rules in
     let r = c.load.ensures in
-    played c.args.string (I.load c.args.bytes.now) _ c.requires (omega arith) _ r.number r.state
-    r.valid
+    played (I.load c.args.bytes.now) _ c.requires h _ r.number r.state r.valid
