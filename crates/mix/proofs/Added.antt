@@ -7,7 +7,10 @@ use native.Mathlib.Numerals.{add-one}
 use lib.IntN.{ℤ, pos, nat_abs, ◌+ℤ◌}
 use lib.ListN.{length, get_or}
 use Rattle.integer.specs.Rounding.{M, clip}
-use Rattle.integer.proofs.View.{Zs, +v}
+use mir.Syntax.{w32}
+use mir.Val.{SFits, to_z, of_z}
+use mir.Facts.{to_z-of_z}
+use Rattle.integer.proofs.View.{Zs, +v, abs_fits}
 use Rattle.integer.proofs.Ring.{abs-+}
 use Rattle.samples.specs.Samples.{loudest}
 use Rattle.allpass.proofs.Bounds.{out_within}
@@ -33,6 +36,23 @@ pub clip-at : (a : List ℤ) (i : ℕ) → i < length a → clip (get_or a i (po
 clip-at [] i h = absurd (omega arith)
 clip-at (x ∷ a) zero h = refl
 clip-at (x ∷ a) (suc i) h = clip-at a i (omega arith)
+
+-- a sum of five samples, which is t, and one sample more: they fit 32 bits
+module _ {a t : ℤ} (b : ℤ) (e : a ≡ t) (h : nat_abs t ≤ 5 * M) (k : nat_abs b ≤ M) where
+  first : to_z w32 (of_z w32 a) ≡ t
+  first = rw e (to_z-of_z (abs_fits w32 t (omega (arith, h))))
+
+  more : to_z w32 (of_z w32 b) ≡ b
+  more = to_z-of_z (abs_fits w32 b (omega (arith, k)))
+
+  fits : SFits w32 (t +ℤ b)
+  fits = abs_fits w32 (t +ℤ b) (omega (arith, abs-+ t b, h, k))
+
+  pub sum_fits : SFits w32 (to_z w32 (of_z w32 a) +ℤ to_z w32 (of_z w32 b))
+  sum_fits = rw (first, more) fits
+
+  pub sum_read : to_z w32 (of_z w32 (to_z w32 (of_z w32 a) +ℤ to_z w32 (of_z w32 b))) ≡ t +ℤ b
+  sum_read = rw (first, more) (to_z-of_z fits)
 
 -- ---- how loud
 sounds-within : (v : State) → nat_abs (sounds v) ≤ M

@@ -25,10 +25,8 @@ fn sum_strings(
         heads.new lines.new sums.new }
 {
     render_string(&mut heads[0], &mut lines[0], fed, input, sums);
-    let mut k = 1;
-    while k < 6 {
+    for k in 1..6 {
         add_string(&mut heads[k], &mut lines[k], fed, input, room, sums);
-        k = k + 1;
     }
 }
 
@@ -68,14 +66,7 @@ fn part(
     mix_part(heads, lines, fed, buffer, &mut room[..n], &mut sums[..n]);
 }
 
-// How many of n samples make a part.
-fn part_length(n: usize) -> usize
-    ensures { (result ≤ 64) × (result ≤ n) × (0 < n → 0 < result) }
-{
-    if n < 64 { n } else { 64 }
-}
-
-// Part after part.
+// Part after part: by no chunks_mut(64), after which a proof knows no sample of the buffer.
 pub fn through(
     heads: &mut [[u32; 27]; 6],
     lines: &mut [[i32; 2112]; 6],
@@ -90,15 +81,8 @@ pub fn through(
     let mut sums = [0i32; 64];
     let mut i = 0;
     while i < buffer.len() {
-        let n = part_length(buffer.len() - i);
-        part(
-            heads,
-            lines,
-            fed,
-            &mut buffer[i..i + n],
-            &mut room,
-            &mut sums,
-        );
-        i = i + n;
+        let end = buffer.len().min(i + 64);
+        part(heads, lines, fed, &mut buffer[i..end], &mut room, &mut sums);
+        i = end;
     }
 }

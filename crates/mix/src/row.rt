@@ -16,10 +16,7 @@ fn render_fed(head: &mut [u32; 27], line: &mut [i32; 2112], buffer: &mut [i32])
     ensures { Rendered head.old line.old buffer.old head.new
         line.new buffer.new }
 {
-    let h = unpack(head);
-    let k = render::render(line, h, buffer);
-    let w = pack(k);
-    *head = w;
+    *head = pack(render::render(line, unpack(head), buffer));
 }
 
 // Fills the buffer where 0 comes in at each sample.

@@ -24,9 +24,6 @@ render_string-requires c =
       input_bound = c.requires.voices.1;
     }
 
-pub loop-k-init : goal.loop-k-init
-loop-k-init c = (omega arith, omega arith, refl, refl, λ s f. f)
-
 -- at the loop: the strings before, their input, and what the first k of them left
 module _ (p : (lts.At-loop tie.the-claims reads.Pre reads.Post goal.the-invariant-loop-k goal.the-decreases-loop-k tie.handed_clauses)) where
   abbrev before : Strings
@@ -36,7 +33,7 @@ module _ (p : (lts.At-loop tie.the-claims reads.Pre reads.Post goal.the-invarian
   fed-in = fed_of p.args.fed 0 p.args.input.now
 
   firsts : Firsts before fed-in p.loop-k.k p.loop-k.heads p.loop-k.lines p.loop-k.sums
-  firsts = p.loop-k.invariant.4 before (firsts_one p.requires.voices.0 p.render_string.ensures)
+  firsts = p.loop-k.invariant before (firsts_one p.requires.voices.0 p.render_string.ensures)
 
   long : length p.args.input.now ≡ length p.loop-k.sums
   long = sym (firsts_long firsts ∙ length-fed p.args.fed 0 p.args.input.now)
@@ -47,23 +44,15 @@ add_string-requires c =
     let f = firsts p in
     let k : c.loop-k.k ≤ 5 = omega arith in
     record {
-      valid = (f.voices.valid c.loop-k.k k, c.requires.input_len.0 ∙ sym c.loop-k.invariant.2);
+      valid = (f.voices.valid c.loop-k.k k, omega (arith, c.requires.input_len.0));
       input_len = (long p, c.requires.voices.1);
       sums_bound = firsts_quiet f k;
     }
 
 pub loop-k-preserved : goal.loop-k-preserved
-loop-k-preserved c =
-    let k : c.loop-k.k ≤ 5 = omega arith in (
-      omega arith,
-      omega arith,
-      search rules,
-      search rules,
-      λ s f. firsts_more (c.loop-k.invariant.4 s f) k c.add_string.ensures,
-    )
+loop-k-preserved c = λ s f. firsts_more (c.loop-k.invariant s f) (omega arith) c.add_string.ensures
 
 pub returns : goal.returns
 returns c =
-    let p = c.before in
-    let k : c.loop-k.k ≡ 6 = omega (arith, c.loop-k.invariant.1) in
-    firsts_all (firsts p) k
+    let k : c.loop-k.k ≡ 6 = omega arith in
+    firsts_all (firsts c.before) k

@@ -2,16 +2,16 @@
 -- head.
 use Rattle.mix.proofs.row.render_fed.Goals as goal
 
-pub render-k-requires : goal.render-k-requires
-render-k-requires c = rw c.unpack-h.ensures c.requires
+pub render-requires : goal.render-requires
+render-requires c = rw c.unpack.ensures c.requires
 
 pub returns : goal.returns
 returns c =
-    let e = c.render-k.ensures in
+    let e = c.render.ensures in
     record {
       after = record {
-        state = rw (← c.unpack-h.ensures, c.pack-w.ensures) e.line_after;
-        valid = rw c.pack-w.ensures e.valid;
+        state = rw (← c.unpack.ensures, c.pack.ensures) e.line_after;
+        valid = rw c.pack.ensures e.valid;
       };
-      out = rw (← c.unpack-h.ensures) e.buffer_after;
+      out = rw (← c.unpack.ensures) e.buffer_after;
     }
