@@ -1,12 +1,16 @@
 -- An event on rows: by 24 and by the float's own number nothing is left changed; else the call's row is.
-use mathlib.Core.Path.{◌≡◌, sym, ap, ◌∙◌}
+use mathlib.Core.Path.{◌≡◌, refl, sym, ap, ◌∙◌}
 use mathlib.Core.Bool.{Bool, cond}
-use mathlib.Core.List.{List}
+use mathlib.Core.List.{List, [], ◌∷◌}
 use Prim.Native.Nat.{ℕ, ◌≤◌, ◌<◌}
+use native.Mathlib.Decide.{dec_lt}
+use native.Mathlib.Omega.{arith}
 use borrow.Author.Tests.{lt-ltb, le-ltb, eq-eqb, ne_eqb}
 use lib.IntN.{ℤ}
+use Rattle.refusal.specs.Limits.{Limit, refusal}
+use Rattle.refusal.proofs.Returned.{here, past, kept-is, is-met}
 use Rattle.rule.specs.Calls.{Call}
-use Rattle.instrument.specs.Strings.{Strings, on, calls, play}
+use Rattle.instrument.specs.Strings.{Strings, string_limit, on, calls, play}
 use Rattle.instrument.specs.Strings as S
 use Rattle.strings.specs.Rows.{strings_of, Called}
 use Rattle.events.specs.declared.Event.{Event}
@@ -43,12 +47,24 @@ module _ (s : Strings) (k : ℕ) (e : Event) where
 
 -- ---- on rows
 module _ {hs : List (List ℕ)} (k : ℕ) (e : Event) where
-  pub above : 5 < k → Handled hs k e 24 hs
+  above : 5 < k → Handled hs k e 24 hs
   above h = record {
     number = λ ls. number-above (strings_of hs ls) k e h;
     states = λ ls j l. leaves-above (strings_of hs ls) k e h j;
     voices = λ ls v. v;
   }
+
+  -- by the test of the string alone
+  pub above_tested : {n : ℕ} → n ≡ refusal (string_limit k ∷ []) → (n ≡ 0 → ⊥) → Handled hs k e n hs
+  above_tested {n} i f = go (dec_lt 5 k)
+    where
+      l : Limit
+      l = string_limit k
+
+      go : Dec (5 < k) → Handled hs k e n hs
+      go (yes h) = rw (i ∙ here l [] (is-met l (λ p. omega (arith, p.most)))) (above h)
+      go (no h) =
+          absurd (f (i ∙ sym (past l [] (kept-is l (record { least = omega arith; most = omega arith })) refl)))
 
   module _ (h : k ≤ 5) where
     pub refused : {n : ℕ} → ((ls : List (List ℤ)) → float_number (strings_of hs ls k) e ≡ n) → (n ≡ 0 → ⊥)

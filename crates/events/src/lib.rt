@@ -4,9 +4,13 @@
 #![tactic(auto)]
 
 ghost use Rattle.std.specs.Prelude.{◌≡◌, [], ◌≤◌, get_or};
+ghost use Rattle.refusal.specs.Numbers.{code_of};
 ghost use Rattle.strings.specs.Rows.{Heads};
 ghost use Rattle.events.specs.declared.Event.TheVariants.{Delay as DelayOf, Loss as LossOf};
 ghost use Rattle.events.specs.Events.{Handled};
+
+use refusal::{Refusal, within};
+use voice::Tuning;
 
 #[derive(Clone, Copy)]
 pub enum Event {
@@ -19,43 +23,39 @@ fn order_of(heads: &[[u32; 27]; 6], string: u32) -> u32
     requires { Heads heads.now × (string ≤ 5) }
     ensures { result ≡ get_or (get_or heads.now string []) 0 0 }
 {
-    let k = string as usize;
-    heads[k][0]
+    heads[string as usize][0]
 }
 
 // A delay: the change is announced.
-fn handle_delay(heads: &mut [[u32; 27]; 6], string: u32, x: f32) -> u32
+fn handle_delay(heads: &mut [[u32; 27]; 6], string: u32, x: f32) -> Result<(), Refusal>
     requires { Heads heads.old × (string ≤ 5) }
-    ensures { Handled heads.old string (DelayOf x) result heads.new }
+    ensures { Handled heads.old string (DelayOf x) (code_of result) heads.new }
 {
     let order = order_of(heads, string);
-    let p = floats::delay::split(order, x);
-    if p.refusal != 0 {
-        return p.refusal;
-    }
-    strings::changes::announce(heads, string, order, p.length, p.delay)
+    let parts = floats::delay::split(order, x)?;
+    let to = Tuning {
+        order,
+        length: parts.length,
+        delay: parts.delay,
+    };
+    strings::changes::announce(heads, string, to)
 }
 
 // A loss.
-fn handle_loss(heads: &mut [[u32; 27]; 6], string: u32, x: f32) -> u32
+fn handle_loss(heads: &mut [[u32; 27]; 6], string: u32, x: f32) -> Result<(), Refusal>
     requires { Heads heads.old × (string ≤ 5) }
-    ensures { Handled heads.old string (LossOf x) result heads.new }
+    ensures { Handled heads.old string (LossOf x) (code_of result) heads.new }
 {
-    let l = floats::loss::enter(x);
-    if l.refusal != 0 {
-        return l.refusal;
-    }
-    strings::set_loss(heads, string, l.g)
+    let g = floats::loss::enter(x)?;
+    strings::set_loss(heads, string, g)
 }
 
-// An event on a string.
-pub fn handle(heads: &mut [[u32; 27]; 6], string: u32, e: Event) -> u32
+// An event on a string: 24 where there is no such string, ahead of the float's own tests.
+pub fn handle(heads: &mut [[u32; 27]; 6], string: u32, e: Event) -> Result<(), Refusal>
     requires { Heads heads.old }
-    ensures { Handled heads.old string e result heads.new }
+    ensures { Handled heads.old string e (code_of result) heads.new }
 {
-    if 5 < string {
-        return refusal::STRING;
-    }
+    within(Refusal::NoString, string, 0, 5)?;
     match e {
         Event::Delay(x) => handle_delay(heads, string, x),
         Event::Loss(x) => handle_loss(heads, string, x),

@@ -1,14 +1,17 @@
 -- `events::handle` meets its contract: 24, or by which of the two the event is.
-use native.Mathlib.Omega.{arith}
-use borrow.Author.Rules.{rules}
-use Rattle.events.proofs.Handled.{above}
+use Rattle.std.proofs.Common.{rules, ◌≡◌, [], ◌∷◌}
+use Rattle.std.specs.Prelude.{Err}
+use Rattle.refusal.specs.Limits.{refusal}
+use Rattle.refusal.specs.Numbers.{number_of}
+use Rattle.refusal.proofs.Numbers.{refused-above}
+use Rattle.instrument.specs.Strings.{string_limit}
+use Rattle.events.proofs.Handled.{above_tested}
 use Rattle.events.proofs.handle.Goals as goal
 
-pub returns-then-string-gt5 : goal.returns-then-string-gt5
-returns-then-string-gt5 c = let s = c.args in above s.string s.e (omega (arith, c.if-string-gt5.true))
-
-pub returns-in-Delay : goal.returns-in-Delay
-returns-in-Delay c = rw c.in-Delay.is c.handle_delay.ensures
-
-pub returns-in-Loss : goal.returns-in-Loss
-returns-in-Loss c = rw c.in-Loss.is c.handle_loss.ensures
+pub returns-in_err-within : goal.returns-in_err-within
+returns-in_err-within c =
+    let s = c.args in
+    let r = c.in_err-within.field-0.0 in
+    let i : c.from_residual.result ≡ Err r = search rules in
+    let e : number_of r ≡ refusal (string_limit s.string ∷ []) = search rules in
+    rw i (above_tested s.string s.e e (refused-above r))
