@@ -4,16 +4,18 @@
 
 ghost use Rattle.std.specs.Prelude.{◌≡◌, ◌≤◌, nat_abs, ◌+ℤ◌};
 ghost use Rattle.integer.specs.Rounding.{M, clip as Clip};
+ghost use Rattle.refusal.specs.Numbers.{code_of};
 ghost use Rattle.voice.specs.Valid.{Valid};
 ghost use Rattle.packed.specs.Words.{head_of};
 ghost use Rattle.strings.specs.Rows.{Voices};
-ghost use Rattle.frames.specs.Frames.{Framed};
+ghost use Rattle.frames.specs.Frames.{framed, Framed};
 ghost use Rattle.frames.specs.Steps.{Row, OneString, Side, Sides};
 
 use floats::frame::{Frame, frame_of};
 use integer::arithmetic::plus;
 use integer::{Value, clip};
 use packed::{pack, unpack};
+use refusal::Refusal;
 
 // One sample of the string in a row.
 fn row_sample(head: &mut [u32; 27], line: &mut [i32; 2112], x: Value) -> Value
@@ -21,13 +23,9 @@ fn row_sample(head: &mut [u32; 27], line: &mut [i32; 2112], x: Value) -> Value
     ensures { Row head.old line.old x.n result.n head.new
         line.new }
 {
-    let h = unpack(head);
-    let t = step::step(line, h, x);
-    let k = t.head;
-    let w = pack(k);
-    *head = w;
-    let y = t.y;
-    y
+    let stepped = step::step(line, unpack(head), x);
+    *head = pack(stepped.head);
+    stepped.y
 }
 
 // One sample of a string.
@@ -75,24 +73,16 @@ fn sides(heads: &mut [[u32; 27]; 6], lines: &mut [[i32; 2112]; 6], x: Value) -> 
     frame_of(a.n as i32, b.n as i32)
 }
 
-// One frame: each string takes the sample. The number is left in what is lent; a refused frame is 0.0, 0.0.
+// One frame: each string takes the sample.
 pub fn frame(
     heads: &mut [[u32; 27]; 6],
     lines: &mut [[i32; 2112]; 6],
     x: f32,
-    number: &mut u32,
-) -> Frame
+) -> Result<Frame, Refusal>
     requires { Voices heads.old lines.old }
-    ensures { Framed heads.old lines.old x number.new result
+    ensures { Framed heads.old lines.old x (code_of result) (framed result)
         heads.new lines.new }
 {
-    let s = floats::sample::enter(x);
-    *number = s.refusal;
-    if s.refusal != 0 {
-        return Frame {
-            left: 0.0,
-            right: 0.0,
-        };
-    }
-    sides(heads, lines, Value { n: s.n })
+    let n = floats::sample::enter(x)?;
+    Ok(sides(heads, lines, Value { n }))
 }

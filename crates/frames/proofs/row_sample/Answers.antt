@@ -1,16 +1,16 @@
 -- `frames::row_sample` meets its contract: one step of the voice that the words and the line are.
 use Rattle.frames.proofs.row_sample.Goals as goal
 
-pub step-t-requires : goal.step-t-requires
-step-t-requires c =
-    rw c.unpack-h.ensures c.requires
+pub step-stepped-requires : goal.step-stepped-requires
+step-stepped-requires c =
+    rw c.unpack.ensures c.requires
 
 pub returns : goal.returns
 returns c =
-    let f = c.step-t.ensures in
+    let f = c.step-stepped.ensures in
     record {
-      value = rw (← c.unpack-h.ensures) f.y;
+      value = rw (← c.unpack.ensures) f.y;
       small = f.small;
-      state = rw (← c.unpack-h.ensures, c.pack-w.ensures) f.state;
-      valid = rw c.pack-w.ensures f.valid;
+      state = rw (← c.unpack.ensures, c.pack.ensures) f.state;
+      valid = rw c.pack.ensures f.valid;
     }
