@@ -1,5 +1,7 @@
 // Standard input, a part at a time: one read takes what is there, and puts it behind what a room holds.
 // Contracts say how much the room then holds, and cannot say which bytes were read.
+// The room and how much it holds are no struct: the console keeps the one in its frame and the other from call to
+// call, and the clauses speak of both.
 #![tactic(auto)]
 
 ghost use Rattle.std.specs.Prelude.{◌≡◌, ◌+◌, ◌≤◌, length, drop, MatchResult};
@@ -31,7 +33,7 @@ pub fn more(mut from: Stdin, room: &mut [u8], held: usize) -> Result<usize, Fail
     }
 }
 
-// Reads until the room is full, the input ends or a read fails.
+// Reads until the room is full, the input ends or a read fails. A while, since no read comes at a known place.
 pub fn full(from: Stdin, room: &mut [u8]) -> Result<usize, Failed>
     ensures { MatchResult result (λ n. n ≤ length room.old) (λ e. e.held ≤ length room.old) }
 {

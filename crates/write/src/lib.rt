@@ -1,5 +1,6 @@
 // Text put into a lent buffer at a place; the place after it is returned. Contracts cite specs/Written.antt.
 // Where the text does not fit, the buffer is left as it was, and the same place is returned.
+// A buffer and a place, and no struct: Wrote, Spelled and Signed speak of the two.
 #![tactic(auto)]
 
 ghost use Rattle.std.specs.Prelude.{◌/◌, ◌%◌, [], ◌∷◌};
@@ -38,7 +39,8 @@ pub fn signed(buffer: &mut [u8], at: usize, x: i64) -> usize
     number(buffer, start, x.unsigned_abs())
 }
 
-// A byte in two hexadecimal digits.
+// A byte in two hexadecimal digits. io's hex and its decimal take arrays of two lengths, and have two clauses: so
+// this is not number with a base.
 pub fn hex(buffer: &mut [u8], at: usize, b: u8) -> usize
     ensures { Wrote (hex_digit_ascii (b / 16) ∷ hex_digit_ascii (b % 16) ∷ []) buffer.old at
         buffer.new result }
