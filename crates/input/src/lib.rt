@@ -1,7 +1,7 @@
 // Standard input, a part at a time: one read takes what is there, and puts it behind what a room holds.
 // Contracts say how much the room then holds, and cannot say which bytes were read.
-// The room and how much it holds are no struct: the console keeps the one in its frame and the other from call to
-// call, and the clauses speak of both.
+// The room and how much it holds are no struct: the console keeps the one in its frame and the other from call
+// to call, and the clauses speak of both.
 #![tactic(auto)]
 
 ghost use Rattle.std.specs.Prelude.{◌≡◌, ◌+◌, ◌≤◌, length, drop, MatchResult};

@@ -39,8 +39,8 @@ pub fn signed(buffer: &mut [u8], at: usize, x: i64) -> usize
     number(buffer, start, x.unsigned_abs())
 }
 
-// A byte in two hexadecimal digits. io's hex and its decimal take arrays of two lengths, and have two clauses: so
-// this is not number with a base.
+// A byte in two hexadecimal digits. Not number with a base: io's hex and its decimal take arrays of two lengths,
+// and have two clauses.
 pub fn hex(buffer: &mut [u8], at: usize, b: u8) -> usize
     ensures { Wrote (hex_digit_ascii (b / 16) ∷ hex_digit_ascii (b % 16) ∷ []) buffer.old at
         buffer.new result }
