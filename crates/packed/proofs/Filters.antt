@@ -1,5 +1,5 @@
 -- The numbers of a tuned filter are small, and what its words are.
-use mathlib.Core.Path.{◌≡◌, ap}
+use mathlib.Core.Path.{ap}
 use Prim.Native.Nat.{ℕ, ◌≤◌, ◌^◌}
 use native.Mathlib.Omega.{arith}
 use lib.IntN.{nat_abs}
@@ -9,13 +9,8 @@ use Rattle.thiran.proofs.Lists.{coefficient-small}
 use Rattle.allpass.specs.Stored.{stored}
 use Rattle.allpass.specs.declared.State.{State}
 use Rattle.voice.specs.declared.Filter.{Filter}
-use Rattle.voice.specs.declared.Kind.{Kind}
-use Rattle.voice.specs.declared.Kind.TheVariants.{Announced, Asked}
-use Rattle.voice.specs.declared.Waiting.TheVariants.{Prepared}
 use Rattle.voice.specs.Valid.{Tuned}
 use Rattle.voice.proofs.Within.{read-within}
-use Rattle.packed.specs.Words.{waiting_from}
-use Rattle.packed.specs.Parts.{IsKind}
 
 module _ (f : Filter) (h : Tuned f) where
   abbrev N : ℕ
@@ -42,10 +37,6 @@ module _ (f : Filter) (h : Tuned f) where
       let e = ap (λ (c : Coefficients). c.a3) h.coefficients_are in
       rw e (omega (arith, coefficient-small N d 2 h.takes))
 
-  pub v1-small : nat_abs f.state.v1 ≤ 2 ^ 24
-  unfolding stored
-  v1-small = omega (arith, read-within 0 h.within (ap (λ (s : State). s.v1) h.past))
-
   pub v2-small : nat_abs f.state.v2 ≤ 2 ^ 24
   unfolding stored
   v2-small = omega (arith, read-within 1 h.within (ap (λ (s : State). s.v2) h.past))
@@ -53,7 +44,3 @@ module _ (f : Filter) (h : Tuned f) where
   pub v3-small : nat_abs f.state.v3 ≤ 2 ^ 24
   unfolding stored
   v3-small = omega (arith, read-within 2 h.within (ap (λ (s : State). s.v3) h.past))
-
-pub waits : (k : Kind) (n t : ℕ) (g e : Filter) → IsKind k n → g ≡ e → waiting_from n g t ≡ Prepared k e t
-waits Announced n t g e i j = rw (i, j)
-waits Asked n t g e i j = rw (i, j)

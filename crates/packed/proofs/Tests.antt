@@ -1,16 +1,17 @@
 -- What each test of the words says of the number, the filter and the change that they are.
-use mathlib.Core.Path.{◌≡◌, refl, sym, ap, subst, ◌∙◌}
-use mathlib.Core.Bool.{Bool, true, false, cond}
+use mathlib.Core.Path.{◌≡◌, refl}
+use mathlib.Core.Bool.{Bool, true, false, not, cond, ◌&&◌, true≢false}
+use Rattle.std.specs.Ordering.{int_eq}
+use Rattle.std.proofs.lemmas.Bool.Decides.{Decides-int_eq, Decides-and}
 use mathlib.Core.List.{[], ◌∷◌}
 use mathlib.Core.Logic.{◌↔◌}
-use Prim.Native.Nat.{ℕ, ◌+◌, ◌-◌, ◌≤◌, ◌<◌, ◌^◌}
+use Prim.Native.Nat.{ℕ, ◌≤◌, ◌<◌}
 use native.Mathlib.Omega.{arith}
-use native.Mathlib.Decide.{ℕ_discrete}
-use borrow.Author.Tests.{eq-eqb, ne_eqb, leb-true, leb-false}
+use borrow.Author.Tests.{leb-true, leb-false}
 use lib.Dec.{leb}
 use lib.IntN.{ℤ, pos, nat_abs}
-use Rattle.integer.proofs.View.{absv, onev, near, -v, Zs}
-use Rattle.refusal.specs.Limits.{Between, refusal}
+use Rattle.integer.proofs.View.{absv, Zs}
+use Rattle.refusal.specs.Limits.{refusal}
 use Rattle.refusal.specs.Orders.{Takes, order, delay}
 use Rattle.refusal.specs.Returned.{AllKept, none, more}
 use Rattle.refusal.proofs.Ranges.{ranges}
@@ -18,39 +19,14 @@ use Rattle.refusal.proofs.Returned.{returned}
 use Rattle.thiran.specs.Answers.{padded}
 use Rattle.thiran.specs.Coefficients.{coefficients}
 use Rattle.thiran.specs.declared.formula.Coefficients.{Coefficients}
-use Rattle.thiran.proofs.Lists.{coefficient-small}
-use Rattle.rule.specs.Tests.{long, askings}
+use Rattle.rule.specs.Tests.{long}
 use Rattle.voice.specs.declared.Filter.{Filter}
-use Rattle.voice.specs.declared.Kind.TheVariants.{Announced, Asked}
-use Rattle.voice.specs.declared.Waiting.TheVariants.{Prepared}
-use Rattle.voice.specs.Valid.{Tuned, Waiting-valid}
-use Rattle.signs.specs.Signs.{signed_of}
-use Rattle.packed.specs.Words.{waiting_from}
+use Rattle.voice.specs.Valid.{Tuned}
+use Rattle.packed.specs.Tests.{StateIn}
 use Rattle.packed.proofs.Limits.{tuned, limited}
 
--- ---- words
-pub small_is : (w m : ℕ) → m ≤ 16777214
-    → Between (2147483648 - m) w (2147483648 + m) ↔ (nat_abs (signed_of w) ≤ m)
-small_is w m h =
-    let z = signed_of w in
-    let e = -v (pos w) (pos 2147483648) in (
-      (λ b. near z (omega (arith, e, b.least, b.most))),
-      (λ k. record { least = omega (arith, absv z, onev z, e); most = omega (arith, absv z, onev z, e) }),
-    )
-
-pub word-is : (v w : ℕ) (x : ℤ) → signed_of v ≡ x → Between v w v ↔ (signed_of w ≡ x)
-word-is v w x e = (
-  (λ b.
-      let i : w ≡ v = omega (arith, b.least, b.most) in
-      ap (λ (n : ℕ). signed_of n) i ∙ e),
-  (λ k.
-      let j : signed_of w ≡ signed_of v = k ∙ sym e in
-      let i : w ≡ v = omega (Zs, j, -v (pos w) (pos 2147483648), -v (pos v) (pos 2147483648)) in
-      record { least = omega arith; most = omega arith }),
-)
-
 -- ---- a number of a state: 0 past the order
-pub past_is : (N k : ℕ) (v : ℤ) → (nat_abs v ≤ cond (leb k N) 16777214 0)
+past_is : (N k : ℕ) (v : ℤ) → (nat_abs v ≤ cond (leb k N) 16777214 0)
     ↔ ((nat_abs v ≤ 16777214) × (N < k → v ≡ pos 0))
 past_is N k v = go (leb k N) refl
   where
@@ -62,26 +38,22 @@ past_is N k v = go (leb k N) refl
       (λ p. rw (p.1 (leb-false k N e)) (omega arith)),
     )
 
-pub most-small : (N k : ℕ) → cond (leb k N) 16777214 0 ≤ 16777214
-most-small N k = go (leb k N)
-  where
-    go : (b : Bool) → cond b 16777214 0 ≤ 16777214
-    go true = omega arith
-    go false = omega arith
-
 -- ---- a filter
-pub coefficients-small : (N d : ℕ) (c : Coefficients) → Takes N d → c ≡ padded (coefficients N d)
-    → (nat_abs c.a1 ≤ 2 ^ 24) × (nat_abs c.a2 ≤ 2 ^ 24) × (nat_abs c.a3 ≤ 2 ^ 24)
-unfolding padded
-coefficients-small N d c t e = rw e (
-  omega (arith, coefficient-small N d 0 t),
-  omega (arith, coefficient-small N d 1 t),
-  omega (arith, coefficient-small N d 2 t),
-)
+so : (b : Bool) → not b ≡ false → b ≡ true
+so true e = refl
+so false e = absurd (true≢false e)
 
-pub same-coefficients : (a b c x y z : ℤ) → a ≡ x → b ≡ y → c ≡ z
+made : (a b c x y z : ℤ) → a ≡ x → b ≡ y → c ≡ z
     → ◌≡◌ {A = Coefficients} (record { a1 = a; a2 = b; a3 = c }) (record { a1 = x; a2 = y; a3 = z })
-same-coefficients a b c x y z p q r = rw (p, q, r)
+made a b c x y z p q r = rw (p, q, r)
+
+pub same-coefficients : (c k : Coefficients)
+    → not (int_eq c.a1 k.a1 && (int_eq c.a2 k.a2 && int_eq c.a3 k.a3)) ≡ false → c ≡ k
+same-coefficients c k e =
+    let d = Decides-and (int_eq c.a2 k.a2) (int_eq c.a3 k.a3) (Decides-int_eq c.a2 k.a2) (Decides-int_eq c.a3 k.a3) in
+    let h = (Decides-and (int_eq c.a1 k.a1) (int_eq c.a2 k.a2 && int_eq c.a3 k.a3) (Decides-int_eq c.a1 k.a1) d).0
+    (so (int_eq c.a1 k.a1 && (int_eq c.a2 k.a2 && int_eq c.a3 k.a3)) e) in
+    made c.a1 c.a2 c.a3 k.a1 k.a2 k.a3 h.0 h.1.0 h.1.1
 
 pub tuning_is : (N L d : ℕ) → (refusal (order N ∷ long L ∷ delay N d ∷ []) ≡ 0)
     ↔ (Takes N d × (1 ≤ L) × (L ≤ 2048))
@@ -101,63 +73,25 @@ module _ (f : Filter) where
   abbrev N : ℕ
   N = f.tuning.order
 
-  pub filter-is : {a x y z : Bool}
-      → Takes N f.tuning.delay × (1 ≤ f.tuning.length) × (f.tuning.length ≤ 2048)
-      → ((a ≡ true) ↔ (f.coefficients ≡ padded (coefficients N f.tuning.delay)))
-      → ((x ≡ true) ↔ ((a ≡ true) × (nat_abs f.state.v1 ≤ 16777214)))
-      → ((y ≡ true) ↔ ((x ≡ true) × (nat_abs f.state.v2 ≤ cond (leb 2 N) 16777214 0)))
-      → ((z ≡ true) ↔ ((y ≡ true) × (nat_abs f.state.v3 ≤ cond (leb 3 N) 16777214 0)))
+  pub filter-is : {z : Bool} → Takes N f.tuning.delay × (1 ≤ f.tuning.length) × (f.tuning.length ≤ 2048)
+      → f.coefficients ≡ padded (coefficients N f.tuning.delay) → ((z ≡ true) ↔ StateIn N f.state)
       → (z ≡ true) ↔ Tuned f
-  filter-is t k p q r =
+  filter-is t k p =
       let second = past_is N 2 f.state.v2 in
       let third = past_is N 3 f.state.v3 in (
         (λ e.
-            let e3 = r.0 e in
-            let e2 = q.0 e3.0 in
-            let e1 = p.0 e2.0 in
+            let s = p.0 e in
             tuned f (record {
               delay = (ranges.takes N f.tuning.delay).0 t.0;
               length = record { least = t.1; most = t.2 };
-              coefficients_are = k.0 e1.0;
-              v1 = e1.1;
-              v2 = (second.0 e2.1).0;
-              v3 = (third.0 e3.1).0;
-              second = (second.0 e2.1).1;
-              third = (third.0 e3.1).1;
+              coefficients_are = k;
+              v1 = s.v1;
+              v2 = (second.0 s.v2).0;
+              v3 = (third.0 s.v3).0;
+              second = (second.0 s.v2).1;
+              third = (third.0 s.v3).1;
             })),
         (λ w.
             let l = limited f w in
-            r.1 (
-              q.1 (p.1 (k.1 l.coefficients_are, l.v1), second.1 (l.v2, l.second)),
-              third.1 (l.v3, l.third),
-            )),
+            p.1 (record { v1 = l.v1; v2 = second.1 (l.v2, l.second); v3 = third.1 (l.v3, l.third) })),
       )
-
--- ---- what waits
-pub idle-is : (kind : ℕ) (e : Filter) (n Na : ℕ) → kind ≡ 0 → Waiting-valid Na (waiting_from kind e n)
-idle-is kind e n Na k = rw (eq-eqb kind 0 k) tt
-
-module _ (kind : ℕ) (e : Filter) (n Na : ℕ) (some : kind ≡ 0 → ⊥) where
-  abbrev Counted : Type 0
-  Counted = (n ≤ Na) × (kind ≡ 1 → n < Na)
-
-  pub waiting-is : Waiting-valid Na (waiting_from kind e n) ↔ (Counted × Tuned e)
-  waiting-is = go (ℕ_discrete kind 1)
-    where
-      go : Dec (kind ≡ 1) → Waiting-valid Na (waiting_from kind e n) ↔ (Counted × Tuned e)
-      go (yes k) =
-          let i : waiting_from kind e n ≡ Prepared Announced e n = rw (ne_eqb kind 0 some, eq-eqb kind 1 k) in (
-            (λ v. let p = subst (Waiting-valid Na) i v in ((p.counted, λ z. p.early refl), p.tuned)),
-            (λ p. subst (Waiting-valid Na) (sym i) (record { tuned = p.1; counted = p.0.0; early = λ z. p.0.1 k })),
-          )
-      go (no f) =
-          let i : waiting_from kind e n ≡ Prepared Asked e n = rw (ne_eqb kind 0 some, ne_eqb kind 1 f) in (
-            (λ v. let p = subst (Waiting-valid Na) i v in ((p.counted, λ z. absurd (f z)), p.tuned)),
-            (λ p. subst (Waiting-valid Na) (sym i) (record {
-              tuned = p.1;
-              counted = p.0.0;
-              early = λ z.
-                  let y = ap askings z in
-                  absurd (omega (arith, y));
-            })),
-          )

@@ -1,3 +1,3 @@
 pub mod Words
-pub mod Parts
 pub mod Limits
+pub mod Tests

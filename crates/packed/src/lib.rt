@@ -6,8 +6,9 @@ ghost use Rattle.std.specs.Prelude.{◌≡◌};
 ghost use Rattle.voice.specs.Valid.{Fit};
 ghost use Rattle.packed.specs.Words.{head_of};
 
-use crate::read::{filter_at, signed, waiting_of, word};
-use crate::write::{pack_filter, pack_waiting, word_of};
+use crate::read::{filter_at, waiting_of};
+use crate::write::{pack_filter, pack_waiting};
+use signs::{of_word, to_word};
 use voice::{Head, Pluck};
 
 pub mod fits;
@@ -18,66 +19,55 @@ mod write;
 pub fn unpack(words: &[u32; 27]) -> Head
     ensures { result ≡ head_of words.now }
 {
-    let f = filter_at(words, 0);
-    let e = filter_at(words, 13);
-    let y = signed(word(words, 11));
-    let w = waiting_of(word(words, 12), e, word(words, 22));
-    let p = Pluck {
-        amplitude: word(words, 23),
-        left: word(words, 24),
-        noise: word(words, 25),
-    };
     Head {
-        filter: f,
-        loss: word(words, 9),
-        advance: word(words, 10),
-        last: y,
-        waiting: w,
-        pluck: p,
-        at: word(words, 26) as usize,
+        filter: filter_at(words, 0),
+        loss: words[9],
+        advance: words[10],
+        last: of_word(words[11]),
+        waiting: waiting_of(words[12], filter_at(words, 13), words[22]),
+        pluck: Pluck {
+            amplitude: words[23],
+            left: words[24],
+            noise: words[25],
+        },
+        at: words[26] as usize,
     }
 }
 
-// The words of a head.
+// The words of a head, place by place: without a heap no arrays are joined.
 pub fn pack(h: Head) -> [u32; 27]
     requires { Fit h }
     ensures { head_of result ≡ h }
 {
-    let g = h.filter;
-    let f = pack_filter(g);
-    let v = h.waiting;
-    let w = pack_waiting(h.advance, v);
-    let e = w.filter;
-    let l = h.last;
-    let y = word_of(l);
-    let at = h.at as u32;
+    let f = pack_filter(h.filter);
+    let w = pack_waiting(h.advance, h.waiting);
     [
-        f.order,
-        f.length,
-        f.delay,
-        f.a1,
-        f.a2,
-        f.a3,
-        f.v1,
-        f.v2,
-        f.v3,
+        f[0],
+        f[1],
+        f[2],
+        f[3],
+        f[4],
+        f[5],
+        f[6],
+        f[7],
+        f[8],
         h.loss,
         h.advance,
-        y,
-        w.kind,
-        e.order,
-        e.length,
-        e.delay,
-        e.a1,
-        e.a2,
-        e.a3,
-        e.v1,
-        e.v2,
-        e.v3,
-        w.taken,
+        to_word(h.last),
+        w[0],
+        w[1],
+        w[2],
+        w[3],
+        w[4],
+        w[5],
+        w[6],
+        w[7],
+        w[8],
+        w[9],
+        w[10],
         h.pluck.amplitude,
         h.pluck.left,
         h.pluck.noise,
-        at,
+        h.at as u32,
     ]
 }

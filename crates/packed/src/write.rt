@@ -1,110 +1,55 @@
 // The words of the parts of a head that fits.
-ghost use Rattle.std.specs.Prelude.{◌≡◌, ◌<◌, nat_abs};
+ghost use Rattle.std.specs.Prelude.{◌≡◌, get_or};
 ghost use Rattle.voice.specs.Valid.{Tuned, Waiting-valid};
-ghost use Rattle.signs.specs.Signs.{signed_of};
-ghost use Rattle.packed.specs.Words.{waiting_from};
-ghost use Rattle.packed.specs.Parts.{filter_in, IsKind};
+ghost use Rattle.packed.specs.Words.{filter_from, waiting_from};
 
 use integer::Value;
-use integer::arithmetic::plus;
-use voice::{Filter, Kind, Waiting};
+use signs::to_word;
+use voice::{Filter, Waiting};
 
 // The nine words of a filter.
-#[derive(Clone, Copy)]
-pub struct FilterWords {
-    pub order: u32,
-    pub length: u32,
-    pub delay: u32,
-    pub a1: u32,
-    pub a2: u32,
-    pub a3: u32,
-    pub v1: u32,
-    pub v2: u32,
-    pub v3: u32,
-}
-
-// The eleven words of what waits.
-#[derive(Clone, Copy)]
-pub struct WaitingWords {
-    pub kind: u32,
-    pub filter: FilterWords,
-    pub taken: u32,
-}
-
-// The word of a number, 2^31 higher.
-pub fn word_of(x: Value) -> u32
-    requires { nat_abs x.n < 2147483648 }
-    ensures { signed_of result ≡ x.n }
-{
-    let s = plus(x, Value { n: 2_147_483_648 });
-    s.n as u32
-}
-
-pub fn pack_filter(f: Filter) -> FilterWords
+pub fn pack_filter(f: Filter) -> [u32; 9]
     requires { Tuned f }
-    ensures { filter_in result ≡ f }
+    ensures { filter_from result 0 ≡ f }
 {
-    let a1 = word_of(Value {
-        n: f.coefficients.a1,
-    });
-    let a2 = word_of(Value {
-        n: f.coefficients.a2,
-    });
-    let a3 = word_of(Value {
-        n: f.coefficients.a3,
-    });
-    let v1 = word_of(Value { n: f.state.v1 });
-    let v2 = word_of(Value { n: f.state.v2 });
-    let v3 = word_of(Value { n: f.state.v3 });
-    FilterWords {
-        order: f.tuning.order,
-        length: f.tuning.length,
-        delay: f.tuning.delay,
-        a1: a1,
-        a2: a2,
-        a3: a3,
-        v1: v1,
-        v2: v2,
-        v3: v3,
-    }
+    let t = f.tuning;
+    let c = f.coefficients;
+    let v = f.state;
+    [
+        t.order,
+        t.length,
+        t.delay,
+        to_word(Value { n: c.a1 }),
+        to_word(Value { n: c.a2 }),
+        to_word(Value { n: c.a3 }),
+        to_word(Value { n: v.v1 }),
+        to_word(Value { n: v.v2 }),
+        to_word(Value { n: v.v3 }),
+    ]
 }
 
-fn kind_word(k: Kind) -> u32
-    ensures { IsKind k result }
-{
-    match k {
-        Kind::Announced => 1,
-        Kind::Asked => 2,
-    }
-}
-
-pub fn pack_waiting(advance: u32, w: Waiting) -> WaitingWords
+// The eleven words of what waits: its kind, the eliminator, and how many samples that has taken.
+pub fn pack_waiting(advance: u32, w: Waiting) -> [u32; 11]
     requires { Waiting-valid advance w }
-    ensures { waiting_from result.kind (filter_in result.filter) result.taken ≡ w }
+    ensures { waiting_from (get_or result 0 0) (filter_from result 1) (get_or result 10 0) ≡ w }
 {
     match w {
-        Waiting::Idle => WaitingWords {
-            kind: 0,
-            filter: FilterWords {
-                order: 0,
-                length: 0,
-                delay: 0,
-                a1: 0,
-                a2: 0,
-                a3: 0,
-                v1: 0,
-                v2: 0,
-                v3: 0,
-            },
-            taken: 0,
-        },
-        Waiting::Prepared(k, e, n) => {
-            let x = pack_filter(e);
-            WaitingWords {
-                kind: kind_word(k),
-                filter: x,
-                taken: n,
-            }
+        Waiting::Idle => [0; 11],
+        Waiting::Prepared(kind, e, taken) => {
+            let f = pack_filter(e);
+            [
+                kind.number(),
+                f[0],
+                f[1],
+                f[2],
+                f[3],
+                f[4],
+                f[5],
+                f[6],
+                f[7],
+                f[8],
+                taken,
+            ]
         }
     }
 }

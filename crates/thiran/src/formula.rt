@@ -9,7 +9,7 @@ ghost use Rattle.thiran.specs.Answers.{padded};
 
 use integer::{Value, round_half_up};
 
-#[derive(Clone, Copy)]
+#[derive(Clone, Copy, PartialEq, Eq)]
 pub struct Coefficients {
     pub a1: i64,
     pub a2: i64,
