@@ -18,11 +18,6 @@ returns-in_err-refused c =
     let e : number_of r ≡ refusal (limits s.order s.d) = search rules in
     measured-err s.order s.d s.threshold r i e
 
-pub set-c-requires : goal.set-c-requires
-set-c-requires c =
-    let z : 0 ≡ refusal (limits c.args.order c.args.d) = search rules in
-    takes c.args.order c.args.d (sym z)
-
 pub last_loud-requires : goal.last_loud-requires
 last_loud-requires c =
     let s = c.args in

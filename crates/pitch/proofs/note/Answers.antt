@@ -9,8 +9,7 @@ use Rattle.std.specs.Prelude.{Err}
 use Rattle.refusal.specs.Limits.{Limit, refusal}
 use Rattle.refusal.specs.Numbers.{number_of}
 use Rattle.refusal.specs.Orders.{order}
-use Rattle.refusal.proofs.Returned.{passed}
-use Rattle.refusal.proofs.Passed.{passes, first-kept}
+use Rattle.refusal.proofs.Passed.{passes}
 use Rattle.pitch.specs.Pitch.{rate, note, note_length, split_l, pitch, period}
 use Rattle.pitch.specs.Pitch.{pitch_of}
 use Rattle.pitch.proofs.Refused.{refused-is, stopped}
@@ -66,15 +65,6 @@ returns-in_err-within-3 c =
     ap pitch_of i
     ∙ refused-is a.order (T a.order a.rate a.m) _ r
     (stopped (order a.order ∷ rate a.rate ∷ []) (note a.m ∷ []) post r tt (two a.order a.rate a.m o f) e)
-
-pub loop_period-requires : goal.loop_period-requires
-loop_period-requires c =
-    let a = c.args in
-    let f : 0 ≡ refusal (rate a.rate ∷ []) = search rules in
-    let n : 0 ≡ refusal (note a.m ∷ []) = search rules in (
-      (first-kept (passed (rate a.rate ∷ []) tt (sym f))).most,
-      (first-kept (passed (note a.m ∷ []) tt (sym n))).most,
-    )
 
 pub returns : goal.returns
 unfolding pitch

@@ -1,6 +1,5 @@
 -- `allpass::multiples::output` meets its contract: in order 1 R was made before, else it is made of the sum.
 -- Assumes nothing.
-use mathlib.Core.Path.{◌≡◌}
 use native.Mathlib.Omega.{arith}
 use native.Mathlib.Nat.{div-le_self}
 use lib.IntN.{ℤ, nat_abs, ◌+ℤ◌}
@@ -27,23 +26,3 @@ plus-requires c =
           omega (arith, R-abs (sum s), div-le_self (nat_abs (sum s)) 65536, abs-+ a b, s.requires.2, s.requires.3)
           ),
     )
-
-pub returns-then-order-eq1 : goal.returns-then-order-eq1
-returns-then-order-eq1 c = rw (c.requires.0 c.if-order-eq1.true) at c.plus.ensures
-
-pub plus-requires-2 : goal.plus-requires-2
-plus-requires-2 c =
-    let s = c.before.before in
-    (rw c.foremost.ensures (omega (arith, s.requires.2)), omega (arith, s.requires.3))
-
-is_sum : (c : goal.After-plus-2) → c.plus-2.result.n ≡ sum c.before.before.before
-is_sum c = rw c.foremost.ensures at c.plus-2.ensures
-
-pub more-requires : goal.more-requires
-more-requires c =
-    let s = c.before.before.before in
-    let a = last_of s.args.order s.args.x in
-    (s.requires.1, rw (is_sum c) (omega (arith, abs-+ a s.args.turned.n, s.requires.2, s.requires.3)))
-
-pub returns : goal.returns
-returns c = rw (is_sum c.before) at c.more.ensures
