@@ -13,16 +13,10 @@ use voice::{Filter, Head, Pluck, Tuning, Waiting, settle};
 pub fn anew(order: u32, f: Filter, v: State) -> Filter
     ensures { result ≡ anew_of order f v }
 {
-    let t = Tuning {
-        order: order,
-        length: f.tuning.length,
-        delay: f.tuning.delay,
-    };
-    let c = f.coefficients;
     Filter {
-        tuning: t,
-        coefficients: c,
+        tuning: Tuning { order, ..f.tuning },
         state: v,
+        ..f
     }
 }
 
@@ -45,11 +39,8 @@ fn moved(mut h: Head, r: Ran) -> Head
     requires { h.at + r.done ≤ 2112 }
     ensures { result ≡ moved_of h r }
 {
-    let v = r.state;
-    let f = renewed(h.filter, v);
-    let y = r.last;
-    h.filter = f;
-    h.last = y;
+    h.filter = renewed(h.filter, r.state);
+    h.last = r.last;
     h.at = line::round(h.at + r.done);
     h
 }
@@ -70,17 +61,13 @@ pub fn after(h: Head, p: Led) -> Head
     requires { Waiting-valid h.advance h.waiting × (h.at + p.ran.done ≤ 2112) }
     ensures { result ≡ after_of h p }
 {
-    let w = h.waiting;
-    let n = p.ran.done;
-    let r = p.ran;
-    let u = p.next;
-    match w {
-        Waiting::Idle => moved(h, r),
+    match h.waiting {
+        Waiting::Idle => moved(h, p.ran),
         Waiting::Prepared(kind, e, taken) => settle(
-            moved(h, r),
+            moved(h, p.ran),
             kind,
-            renewed(e, u),
-            counted(taken, n, h.advance),
+            renewed(e, p.next),
+            counted(taken, p.ran.done, h.advance),
         ),
     }
 }
@@ -91,11 +78,10 @@ pub fn sung(h: Head, f: Filter, last: Value, p: Pluck, at: usize) -> Head
 {
     Head {
         filter: f,
-        loss: h.loss,
-        advance: h.advance,
-        last: last,
+        last,
         waiting: Waiting::Idle,
         pluck: p,
-        at: at,
+        at,
+        ..h
     }
 }

@@ -50,8 +50,7 @@ fn plucked(
     let mut k = of_state(order, c, v);
     let mut p = h.pluck;
     let mut last = h.last;
-    let mut i = 0;
-    while i < buffer.len() {
+    for i in 0..buffer.len() {
         let x = samples::read(line, from + i);
         let t = carry(order, true, c, v, k, x);
         let y = clip(t.y);
@@ -64,11 +63,10 @@ fn plucked(
         k = t.products;
         p = o.rest;
         last = y;
-        i = i + 1;
     }
     Sung {
         state: v,
-        last: last,
+        last,
         rest: p,
     }
 }
@@ -81,13 +79,11 @@ fn by_order(line: &mut [i32; 2112], fed: bool, h: Head, from: usize, buffer: &mu
     ensures { Went fed buffer.old h line.old buffer.new
         (sung_of h result (length buffer.old)) line.new (length buffer.old) }
 {
-    if h.filter.tuning.order == 1 {
-        return plucked(line, 1, fed, h, from, buffer);
+    match h.filter.tuning.order {
+        1 => plucked(line, 1, fed, h, from, buffer),
+        2 => plucked(line, 2, fed, h, from, buffer),
+        _ => plucked(line, 3, fed, h, from, buffer),
     }
-    if h.filter.tuning.order == 2 {
-        return plucked(line, 2, fed, h, from, buffer);
-    }
-    plucked(line, 3, fed, h, from, buffer)
 }
 
 // Renders the whole buffer while nothing waits, with the noise of a pluck where one sounds.
@@ -100,18 +96,7 @@ pub fn while_plucked(line: &mut [i32; 2112], fed: bool, h: Head, buffer: &mut [i
     let n = buffer.len();
     let from = line::place(h.at, h.filter.tuning.length as usize);
     let r = by_order(line, fed, h, from, buffer);
-    let v = r.state;
-    let y = r.last;
-    let p = r.rest;
-    let head = sung(
-        h,
-        anew(h.filter.tuning.order, h.filter, v),
-        y,
-        p,
-        line::round(h.at + n),
-    );
-    Progress {
-        head: head,
-        done: n,
-    }
+    let filter = anew(h.filter.tuning.order, h.filter, r.state);
+    let head = sung(h, filter, r.last, r.rest, line::round(h.at + n));
+    Progress { head, done: n }
 }

@@ -96,19 +96,18 @@ pub fn run(
     let mut k = of_state(order, h.filter.coefficients, v);
     let mut u = kept(coming, e.state);
     let mut last = h.last;
-    let mut i = 0;
-    while i < buffer.len() {
+    for i in 0..buffer.len() {
         let x = samples::read(line, from + i);
         let g = samples::read(line, far + i);
         let t = carry(order, fed, h.filter.coefficients, v, k, x);
         let y = heard(order, t.y);
         if is_loud(order, y) {
-            let r = Ran {
+            let ran = Ran {
                 state: v,
-                last: last,
+                last,
                 done: i,
             };
-            return Led { ran: r, next: u };
+            return Led { ran, next: u };
         }
         let s = newest(fed, buffer, i, h.loss, y, last);
         let n = led(coming, fed, e.coefficients, u, g);
@@ -118,12 +117,11 @@ pub fn run(
         k = t.products;
         u = n;
         last = y;
-        i = i + 1;
     }
-    let r = Ran {
+    let ran = Ran {
         state: v,
-        last: last,
-        done: i,
+        last,
+        done: buffer.len(),
     };
-    Led { ran: r, next: u }
+    Led { ran, next: u }
 }

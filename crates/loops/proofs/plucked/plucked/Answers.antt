@@ -14,7 +14,7 @@ use Rattle.step.proofs.Filters.{tuned-fed}
 use Rattle.loops.specs.Carried.{anew_of, left_of, sung_of}
 use Rattle.loops.specs.Fed.{fed_of, input_of}
 use Rattle.loops.specs.Rendered.{Went}
-use Rattle.loops.proofs.Fed.{length-fed, as_long, input-fed, set-fed}
+use Rattle.loops.proofs.Fed.{length-fed, input-fed, set-fed}
 use Rattle.loops.proofs.Passes.{started, reads, more}
 use Rattle.loops.proofs.Carrying.{keeps, kept_anew, carried_self, sung_steps}
 use Rattle.loops.proofs.Taking.{from_on, taken-small, taken_circulates}
@@ -47,13 +47,6 @@ loop-i-init c =
       c.of_state-k.ensures,
     )
 
--- where a pass begins, or the loop ends
-module _ (c : lts.At-loop tie.the-claims reads.Pre reads.Post goal.the-invariant-loop-i goal.the-decreases-loop-i tie.handed_clauses) where
-  same : length c.loop-i.buffer ≡ length c.args.buffer.now
-  same =
-      let l = c.loop-i in
-      as_long c.args.fed l.i l.buffer c.args.buffer.now l.invariant.0.0.long
-
 -- a pass of the loop
 module _ (c : lts.In-loop tie.the-claims reads.Pre reads.Post goal.the-invariant-loop-i goal.the-decreases-loop-i tie.handed_clauses) where
   -- the filter, and the place of the next sample
@@ -69,10 +62,10 @@ module _ (c : lts.In-loop tie.the-claims reads.Pre reads.Post goal.the-invariant
   left : c.loop-i.i < length (fed_of c.args.fed c.loop-i.i c.loop-i.buffer)
   left =
       let l = c.loop-i in
-      omega (arith, c.loop-i-test.true, length-fed c.args.fed l.i l.buffer)
+      omega (arith, length-fed c.args.fed l.i l.buffer)
 
   more_left : c.loop-i.i < length c.args.buffer.now
-  more_left = omega (arith, c.loop-i-test.true, same c.before)
+  more_left = c.loop-i-test.true
 
   here : c.args.h.at + c.loop-i.i ≡ at
   here = omega (arith, more_left, c.requires.from_value.1.0)
@@ -144,7 +137,7 @@ looped-b-requires c =
     (v.loss, y-small k, v.last)
 
 pub input-requires : goal.input-requires
-input-requires c = c.loop-i-test.true
+input-requires c = omega arith
 
 pub mixed-s-requires : goal.mixed-s-requires
 mixed-s-requires c = (
@@ -186,16 +179,7 @@ write-requires c =
     (omega (arith, here r, inside r), newest-small m)
 
 pub write-requires-in-loop-i : goal.write-requires-in-loop-i
-write-requires-in-loop-i c = (c.loop-i-test.true, y-small (heard c.before.before.before))
-
-pub overflow_add-i : goal.overflow_add-i
-overflow_add-i c =
-    let r = over c.before.before.before.before.before.before.before.before in
-    omega (arith, more_left r, c.requires.from_value.1.0)
-
-pub loop-i-smaller : goal.loop-i-smaller
-loop-i-smaller c =
-    let r = over c.before.before.before.before.before.before.before.before in omega (arith, more_left r)
+write-requires-in-loop-i c = (omega arith, y-small (heard c.before.before.before))
 
 pub loop-i-preserved : goal.loop-i-preserved
 loop-i-preserved c =
@@ -208,6 +192,7 @@ loop-i-preserved c =
     let h = s.h in
     let y = c.clip-y.result in
     let o = c.carry-t.ensures in
+    let room : l.i < length l.buffer = omega arith in
     let made = taken_circulates l.line (at r) (long g) (inside r) (valid r).fit.filter (place r)
     c.read-x.ensures (small g) o.1 (y-small e)
     (clip-kept y.n (y-small e) ∙ c.clip-y.ensures ∙ o.0) h.loss l.last.n (coming e)
@@ -215,22 +200,18 @@ loop-i-preserved c =
       more l.invariant.0 (left r) (input-fed s.fed l.buffer l.i)
           (sung_steps h c.sound-o.ensures made (valid r))
           (ap (fed_of s.fed (l.i + 1)) c.write-in-loop-i.ensures
-          ∙ set-fed s.fed l.i l.buffer y.n c.loop-i-test.true)
+          ∙ set-fed s.fed l.i l.buffer y.n room)
           refl,
       o.2,
     )
-
-pub shape_of-buffer : goal.shape_of-buffer
-shape_of-buffer c = same c.before
 
 pub returns : goal.returns
 returns c =
     let l = c.loop-i in
     let s = c.args in
     let h = s.h in
-    let n = length-fed s.fed 0 s.buffer.now in
     let all : l.i ≡ length s.buffer.now
-    = omega (arith, c.loop-i-test.false, same c.before, l.invariant.0.0.within, n) in
+    = omega arith in
     subst
     (λ (n : ℕ). Went s.fed s.buffer.now h s.line.now l.buffer
     (sung_of h (record { state = l.v; last = l.last; rest = l.p }) n) l.line n)

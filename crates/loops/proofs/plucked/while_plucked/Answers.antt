@@ -27,7 +27,7 @@ returns c =
     let f = anew_of h.filter.tuning.order h.filter o.result.state in
     let e : c.sung-head.result ≡ sung_of h o.result n
     = c.sung-head.ensures
-    ∙ ap (λ (f : Filter). left_of h f y p c.round.result) c.anew.ensures
+    ∙ ap (λ (f : Filter). left_of h f y p c.round.result) c.anew-filter.ensures
     ∙ ap (λ (at : ℕ). left_of h f y p at) c.round.ensures in (
       subst
           (λ (k : Head). Went s.fed s.buffer.now h s.line.now o.new.buffer k o.new.line n)

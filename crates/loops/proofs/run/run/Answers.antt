@@ -20,9 +20,10 @@ use Rattle.voice.specs.Struct.{filter_of, state_of}
 use Rattle.voice.specs.Valid.{Valid}
 use Rattle.step.proofs.Filters.{taps_of, tuned-fed}
 use Rattle.loops.specs.declared.Led.{Led}
-use Rattle.loops.specs.Carried.{anew_of, ran_of}
+use Rattle.loops.specs.Carried.{anew_of, ran_of, after_of}
+use Rattle.loops.specs.Rendered.{Went}
 use Rattle.loops.specs.Fed.{fed_of, input_of}
-use Rattle.loops.proofs.Fed.{length-fed, as_long, input-fed, set-fed}
+use Rattle.loops.proofs.Fed.{length-fed, input-fed, set-fed}
 use Rattle.loops.proofs.Passes.{Passed, started, reads, more}
 use Rattle.loops.proofs.Carrying.{keeps, kept_self}
 use Rattle.loops.proofs.Ahead.{feeds, moves}
@@ -73,11 +74,6 @@ module _ (c : lts.At-loop tie.the-claims reads.Pre reads.Post goal.the-invariant
   abbrev led : Led
   led = record { ran = record { state = c.loop-i.v; last = c.loop-i.last; done = c.loop-i.i }; next = c.loop-i.u }
 
-  same : length c.loop-i.buffer ≡ length c.args.buffer.now
-  same =
-      let l = c.loop-i in
-      as_long c.args.fed l.i l.buffer c.args.buffer.now l.invariant.0.0.long
-
 -- a pass of the loop: a change still waits
 module _ (c : lts.In-loop tie.the-claims reads.Pre reads.Post goal.the-invariant-loop-i goal.the-decreases-loop-i tie.handed_clauses) where
   abbrev h : Head
@@ -94,7 +90,7 @@ module _ (c : lts.In-loop tie.the-claims reads.Pre reads.Post goal.the-invariant
   head = on_of h.waiting h (led c.before)
 
   more_left : c.loop-i.i < length c.args.buffer.now
-  more_left = omega (arith, c.loop-i-test.true, same c.before)
+  more_left = c.loop-i-test.true
 
   so_far : Passed (fed_of c.args.fed 0 c.args.buffer.now) (state_of h c.args.line.now)
       (fed_of c.args.fed c.loop-i.i c.loop-i.buffer) head c.loop-i.line c.loop-i.i
@@ -114,7 +110,7 @@ module _ (c : lts.In-loop tie.the-claims reads.Pre reads.Post goal.the-invariant
   left : c.loop-i.i < length (fed_of c.args.fed c.loop-i.i c.loop-i.buffer)
   left =
       let l = c.loop-i in
-      omega (arith, c.loop-i-test.true, length-fed c.args.fed l.i l.buffer)
+      omega (arith, length-fed c.args.fed l.i l.buffer)
 
   here : h.at + c.loop-i.i ≡ at
   here = omega (arith, more_left, c.requires.from_value.2.0)
@@ -178,9 +174,6 @@ carry-t-requires c =
 pub is_loud-requires : goal.is_loud-requires
 is_loud-requires c = c.heard-y.ensures.1
 
-pub shape_of-buffer-then-is_loud : goal.shape_of-buffer-then-is_loud
-shape_of-buffer-then-is_loud c = same (within c.before.before.before.before.before.before).before
-
 pub returns-then-is_loud : goal.returns-then-is_loud
 returns-then-is_loud c = c.loop-i.invariant.0
 
@@ -228,7 +221,7 @@ pub newest-s-requires : goal.newest-s-requires
 newest-s-requires c =
     let r = around c in
     let v = (valid r).fit in
-    record { i_in_bounds = (c.loop-i-test.true, input-small c); loss_bound = (v.loss, y-small c, v.last) }
+    record { i_in_bounds = (omega arith, input-small c); loss_bound = (v.loss, y-small c, v.last) }
 
 pub led-n-requires : goal.led-n-requires
 led-n-requires c =
@@ -240,7 +233,7 @@ led-n-requires c =
     (so_far r).1 (long t) s.1 s.3 (more_left r) c.read-g.ensures
 
 pub write-requires : goal.write-requires
-write-requires c = (c.loop-i-test.true, y-small c.before.before.before.before)
+write-requires c = (omega arith, y-small c.before.before.before.before)
 
 pub overflow_add-h : goal.overflow_add-h
 overflow_add-h c =
@@ -259,16 +252,6 @@ write-requires-in-loop-i c =
       subst (λ (z : ℤ). nat_abs z ≤ M) (sym c.newest-s.ensures) (clip_abs u),
     )
 
-pub overflow_add-i : goal.overflow_add-i
-overflow_add-i c =
-    let r = around c.before.before.before.before.before.before.before.before.before.before.before in
-    omega (arith, more_left r, c.requires.from_value.2.0)
-
-pub loop-i-smaller : goal.loop-i-smaller
-loop-i-smaller c =
-    let r = around c.before.before.before.before.before.before.before.before.before.before.before in
-    omega (arith, more_left r)
-
 pub loop-i-preserved : goal.loop-i-preserved
 loop-i-preserved c =
     let k = c.before.before.before.before.before.before.before.before.before.before.before in
@@ -282,6 +265,7 @@ loop-i-preserved c =
     let e = c.led-n in
     let t = c.carry-t.ensures in
     let u = e.result in
+    let room : l.i < length l.buffer = omega arith in
     let made = taken_circulates l.line (at r) (long g) (inside r) (valid r).fit.filter (place r)
     c.read-x.ensures (small g) (next-is k) (y-small k) (out-is k) s.h.loss l.last.n x
     c.newest-s.ensures (here r) (on r) c.write-in-loop-i.ensures in
@@ -290,13 +274,17 @@ loop-i-preserved c =
       more (so_far r) (left r) (input-fed s.fed l.buffer l.i)
           (goes s.h.waiting s.h (led r.before) u o.1 made m (so_far r).1)
           (ap (fed_of s.fed (l.i + 1)) c.write.ensures
-          ∙ set-fed s.fed l.i l.buffer (y k) c.loop-i-test.true)
+          ∙ set-fed s.fed l.i l.buffer (y k) room)
           refl,
       t.2,
     )
 
-pub shape_of-buffer : goal.shape_of-buffer
-shape_of-buffer c = same c.before
-
 pub returns : goal.returns
-returns c = c.loop-i.invariant.0
+returns c =
+    let l = c.loop-i in
+    let a = c.args in
+    let all : l.i ≡ length l.buffer = omega arith in
+    subst
+    (λ (n : ℕ). Went a.fed a.buffer.now a.h a.line.now l.buffer
+    (after_of a.h (record { ran = record { state = l.v; last = l.last; done = n }; next = l.u })) l.line n)
+    all l.invariant.0

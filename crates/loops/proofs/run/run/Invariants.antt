@@ -1,8 +1,6 @@
 -- `loops::run::run` meets its contract: the invariant is what the loop leaves, with the products it carries on.
 -- What waits, if anything, is in proofs/Leading.antt and proofs/Ahead.antt. Assumes nothing.
 use mathlib.Core.Path.{◌≡◌}
-use Prim.Native.Nat.{◌-◌}
-use lib.ListN.{length}
 use Rattle.allpass.specs.Products.{products_of}
 use Rattle.loops.specs.Carried.{after_of}
 use Rattle.loops.specs.Rendered.{Went}
@@ -13,7 +11,3 @@ invariant-loop-i l =
     Went l.fed l.initial.buffer l.h l.initial.line l.buffer
     (after_of l.h (record { ran = record { state = l.v; last = l.last; done = l.i }; next = l.u })) l.line l.i
     × (l.k ≡ products_of l.order l.h.filter.coefficients l.v)
-
-abbrev pub decreases-loop-i : goal.decreases-loop-i
-decreases-loop-i l =
-    length l.initial.buffer - l.i
