@@ -1,4 +1,3 @@
-mod Bits
 pub mod Reading
 pub mod Returns
 pub mod Words

@@ -2,14 +2,16 @@
 // The whole record is tested before any field is read.
 #![tactic(auto)]
 
-ghost use Rattle.std.specs.Prelude.{◌≡◌, true, false, ◌∷◌, ◌+◌, ◌*◌, ◌/◌, ◌%◌, ◌≤◌, ◌<◌, length, drop, replicate};
+ghost use Rattle.std.specs.Prelude.{◌≡◌, ◌↔◌, IsTrue, IfOk, ◌∷◌, ◌+◌, ◌*◌, ◌/◌, ◌%◌, ◌≤◌, ◌<◌, length, drop, replicate};
 ghost use Rattle.record.specs.Record.{bytes as bytes_of, word as Word, without as Without};
+ghost use Rattle.refusal.specs.Numbers.{number_of, code_of};
 ghost use Rattle.record.specs.Record.{map_of, ill_formed, record_number};
 ghost use Rattle.record.specs.Record.{fields as Fields, rest as Rest};
 
 mod cut;
 
 use cut::{fill, words_of};
+use refusal::Refusal;
 
 // The nine numbers of a record that is read: its number, its bit map, and its seven fields.
 pub const NUMBER: usize = 0;
@@ -78,40 +80,35 @@ fn bytes(map: u32) -> usize
 
 // Some of these bits stand without any of those that one of them needs.
 fn lacks(bits: u32, needed: u32) -> bool
-    ensures { (result ≡ false → Without bits needed ≡ 0) × (result ≡ true → Without bits needed ≡ 0 → ⊥) }
+    ensures { IsTrue result ↔ ¬ (Without bits needed ≡ 0) }
 {
-    if bits == 0 {
-        return false;
-    }
-    needed == 0
+    bits != 0 && needed == 0
 }
 
 // Bit 5 or 6 stands without 4, or bit 7 without 1 or 2.
 fn is_ill_formed(map: u32) -> bool
-    ensures { (result ≡ false → ill_formed map ≡ 0) × (result ≡ true → ill_formed map ≡ 0 → ⊥) }
+    ensures { IsTrue result ↔ ¬ (ill_formed map ≡ 0) }
 {
-    if lacks(map / HAS_COUNT % 4, bit(map, HAS_AMPLITUDE)) {
-        return true;
-    }
-    lacks(bit(map, INSTANT), map / HAS_LENGTH % 4)
+    lacks(map / HAS_COUNT % 4, bit(map, HAS_AMPLITUDE))
+        || lacks(bit(map, INSTANT), map / HAS_LENGTH % 4)
 }
 
-// What refuses the record that the slice starts with; 0 where it is whole and well formed.
-fn refused(s: &[u8]) -> u32
-    ensures { (result ≡ record_number s.now)
-        × (result ≡ 0 → bytes_of (map_of s.now) ≤ length s.now) }
+// The bit map of the record that the slice starts with, where the record is whole and well formed.
+fn accepted(s: &[u8]) -> Result<u32, Refusal>
+    ensures number { code_of result ≡ record_number s.now }
+    ensures whole { IfOk result (λ map. (map ≡ map_of s.now) × (bytes_of map ≤ length s.now)) }
 {
-    if s.len() == 0 {
-        return refusal::CUT_SHORT;
+    if s.is_empty() {
+        return Err(Refusal::CutShort);
     }
-    let map = s[0] as u32;
+    let map = u32::from(s[0]);
     if s.len() < bytes(map) {
-        return refusal::CUT_SHORT;
+        return Err(Refusal::CutShort);
     }
     if is_ill_formed(map) {
-        return refusal::BIT_MAP;
+        return Err(Refusal::BitMap);
     }
-    0
+    Ok(map)
 }
 
 // A number of 16 bits, low byte first.
@@ -119,46 +116,50 @@ pub fn word(s: &[u8], at: usize) -> u32
     requires { at + 2 ≤ length s.now }
     ensures { result ≡ Word s.now at }
 {
-    (s[at] as u32) + 256 * (s[at + 1] as u32)
+    u32::from(u16::from_le_bytes([s[at], s[at + 1]]))
 }
 
 // A refused record: its number, and nothing else.
-fn refuse(fields: &mut [u32; 9], number: u32)
-    ensures { fields.new ≡ number ∷ replicate 8 0 }
+fn refuse(fields: &mut [u32; 9], refusal: Refusal)
+    ensures { fields.new ≡ number_of refusal ∷ replicate 8 0 }
 {
-    *fields = [number, 0, 0, 0, 0, 0, 0, 0, 0];
+    *fields = [refusal.number(), 0, 0, 0, 0, 0, 0, 0, 0];
 }
 
 // Reads the record that the slice starts with, and returns how many bytes it takes, 0 where it is refused. fields
-// become its number, its bit map, and its wait, L, d, G, amplitude, count and seed. What stands here stands in
-// `read_record` too: either is compiled whole into the one function of the library that calls it, and a slice that is
-// handed over goes through memory.
+// become its number, its bit map, and its wait, L, d, G, amplitude, count and seed: nine numbers, and not a struct, since
+// C lends this array.
 pub fn read(s: &[u8], fields: &mut [u32; 9]) -> usize
     ensures fields_after { fields.new ≡ Fields s.now }
     ensures upper_bound { (result ≤ length s.now) × (drop result s.now ≡ Rest s.now) }
 {
-    let code = refused(s);
-    if code != 0 {
-        refuse(fields, code);
-        return 0;
+    match accepted(s) {
+        Ok(map) => {
+            fill(words_of(s, map), map, fields);
+            bytes(map)
+        }
+        Err(refusal) => {
+            refuse(fields, refusal);
+            0
+        }
     }
-    let map = s[0] as u32;
-    fill(words_of(s, map), map, fields);
-    bytes(map)
 }
 
-// The same, and returns the part of the slice after the record.
+// The same, and returns the part of the slice after the record: a form that document 01 names. What stands here stands in
+// `read` too: as `read` and a slice from its result on, a record took 12.5 ns for 11.2.
 pub fn read_record<'a>(s: &'a [u8], fields: &mut [u32; 9]) -> &'a [u8]
     ensures fields_after { fields.new ≡ Fields s.now }
     ensures result_value { result.now ≡ Rest s.now }
 {
-    let code = refused(s);
-    if code != 0 {
-        refuse(fields, code);
-        return s;
+    match accepted(s) {
+        Ok(map) => {
+            let n = bytes(map);
+            fill(words_of(s, map), map, fields);
+            &s[n..]
+        }
+        Err(refusal) => {
+            refuse(fields, refusal);
+            s
+        }
     }
-    let map = s[0] as u32;
-    let n = bytes(map);
-    fill(words_of(s, map), map, fields);
-    &s[n..]
 }

@@ -5,3 +5,4 @@ pub mod Results
 pub mod Numbers
 pub mod Rendered
 pub mod Theorems
+pub mod Chains

@@ -10,20 +10,21 @@ mod limits;
 mod reading;
 mod writing;
 
-use reading::read_number;
+use reading::readable;
 use riff::data::{fill, load};
 use riff::header::{count_of, rate_of};
 use riff::sizes::file_size;
-use writing::write_number;
+use writing::writable;
 
-// What writing returned: its refusal, 0 for success, and how many bytes the file has.
+// What writing returned: its refusal, 0 for success, and how many bytes the file has. C gets this struct by value.
 #[derive(Clone, Copy)]
 pub struct Written {
     pub refusal: u32,
     pub count: usize,
 }
 
-// What reading returned: its refusal, 0 for success, the rate, and how many samples there are.
+// What reading returned: its refusal, 0 for success, the rate, and how many samples there are. C gets this struct by
+// value.
 #[derive(Clone, Copy)]
 pub struct Recorded {
     pub refusal: u32,
@@ -36,10 +37,9 @@ pub fn write(rate: u32, samples: &[i32], file: &mut [u8]) -> Written
     ensures value { result ≡ written rate samples.now (length file.old) }
     ensures file_after { file.new ≡ left rate samples.now file.old }
 {
-    let refusal = write_number(rate, samples, file.len());
-    if refusal != 0 {
+    if let Err(refusal) = writable(rate, samples, file.len()) {
         return Written {
-            refusal: refusal,
+            refusal: refusal.number(),
             count: 0,
         };
     }
@@ -55,10 +55,9 @@ pub fn read(file: &[u8], samples: &mut [i32]) -> Recorded
     ensures value { result ≡ recorded file.now (length samples.old) }
     ensures samples_after { samples.new ≡ filled file.now samples.old }
 {
-    let refusal = read_number(file, samples.len());
-    if refusal != 0 {
+    if let Err(refusal) = readable(file, samples.len()) {
         return Recorded {
-            refusal: refusal,
+            refusal: refusal.number(),
             rate: 0,
             count: 0,
         };
@@ -68,6 +67,6 @@ pub fn read(file: &[u8], samples: &mut [i32]) -> Recorded
     Recorded {
         refusal: 0,
         rate: rate_of(file),
-        count: count,
+        count,
     }
 }

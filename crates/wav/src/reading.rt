@@ -1,10 +1,13 @@
-// What reading turns down: "19, 17, 18", the number of the first test that is not met, and 0 where all are.
+// What reading turns down: "19, 17, 18", by the first test that is not met.
 // A file is told from other bytes by the header that its own rate and count of samples would have.
-ghost use Rattle.std.specs.Prelude.{◌≡◌, true, ◌↔◌, ◌+◌, ◌*◌, ◌^◌, ◌≤◌, ◌<◌, length, take, drop, replicate};
+ghost use Rattle.std.specs.Prelude.{◌≡◌, true, ◌↔◌, ◌+◌, ◌*◌, ◌^◌, ◌≤◌, ◌<◌, [], ◌∷◌, length, take, drop, replicate};
+ghost use Rattle.refusal.specs.Limits.{refusal as First};
+ghost use Rattle.refusal.specs.Numbers.{code_of};
 ghost use Rattle.riff.specs.Format.{padding as Padding, riff_size, file_size, header as Header};
-ghost use Rattle.wav.specs.Recorded.{is_file, reading_number};
+ghost use Rattle.wav.specs.Recorded.{is_file, formed, reading_number};
 
 use crate::limits::{rated, roomy};
+use refusal::Refusal;
 use riff::header::{count_of, header, rate_of};
 use riff::sizes::{file_size, padding, riff_size};
 
@@ -13,7 +16,7 @@ fn fitting(rate: u32, count: usize) -> bool
     requires { count < 2 ^ 62 }
     ensures { (result ≡ true) ↔ ((3 * rate < 2 ^ 32) × (riff_size count < 2 ^ 32)) }
 {
-    3 * (rate as u64) < 4_294_967_296 && riff_size(count) < 4_294_967_296
+    3 * u64::from(rate) < 4_294_967_296 && riff_size(count) < 4_294_967_296
 }
 
 // The first 44 bytes are the header of so many samples at a rate.
@@ -22,7 +25,7 @@ fn headed(file: &[u8], rate: u32, count: usize) -> bool
     ensures { (result ≡ true) ↔ (take 44 file.now ≡ Header rate count) }
 {
     let mut expected = [0u8; 44];
-    header(&mut expected, rate as u64, count);
+    header(&mut expected, u64::from(rate), count);
     check::same(&file[..44], &expected)
 }
 
@@ -32,10 +35,7 @@ fn padded(file: &[u8], count: usize) -> bool
     ensures { (result ≡ true)
         ↔ (drop (44 + 3 * count) file.now ≡ replicate (Padding count) 0) }
 {
-    if padding(count) == 0 {
-        return true;
-    }
-    file[44 + 3 * count] == 0
+    padding(count) == 0 || file[44 + 3 * count] == 0
 }
 
 // The bytes are a file.
@@ -56,22 +56,22 @@ fn is_file(file: &[u8]) -> bool
     padded(file, count)
 }
 
-// The number of reading.
-pub fn read_number(file: &[u8], room: usize) -> u32
-    ensures { result ≡ reading_number file.now room }
+// The bytes are a file, or refused.
+fn formed(file: &[u8]) -> Result<(), Refusal>
+    ensures { code_of result ≡ First (formed file.now ∷ []) }
+{
+    if !is_file(file) {
+        return Err(Refusal::FileForm);
+    }
+    Ok(())
+}
+
+// The tests of reading.
+pub fn readable(file: &[u8], room: usize) -> Result<(), Refusal>
+    ensures { code_of result ≡ reading_number file.now room }
 {
     let count = count_of(file);
-    let formed = is_file(file);
-    let rated = rated(rate_of(file));
-    let roomy = roomy(count, count, room);
-    if !formed {
-        return refusal::FILE_FORM;
-    }
-    if !rated {
-        return refusal::RECORDING_RATE;
-    }
-    if !roomy {
-        return refusal::ROOM;
-    }
-    0
+    formed(file)?;
+    rated(rate_of(file))?;
+    roomy(count, count, room)
 }

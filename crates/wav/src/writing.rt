@@ -1,23 +1,18 @@
-// What writing turns down: the number of the first test that is not met, and 0 where all are.
+// What writing turns down: by the first test that is not met.
 // "Writing tests 17, 18, 10."
 ghost use Rattle.std.specs.Prelude.{◌≡◌};
+ghost use Rattle.refusal.specs.Numbers.{code_of};
 ghost use Rattle.wav.specs.Written.{write_number};
 
 use crate::limits::{rated, roomy};
+use refusal::{Refusal, within};
 use riff::sizes::file_size;
 
-// The number of writing.
-pub fn write_number(rate: u32, samples: &[i32], room: usize) -> u32
-    ensures { result ≡ write_number rate samples.now room }
+// The tests of writing.
+pub fn writable(rate: u32, samples: &[i32], room: usize) -> Result<(), Refusal>
+    ensures { code_of result ≡ write_number rate samples.now room }
 {
-    if !rated(rate) {
-        return refusal::RECORDING_RATE;
-    }
-    if !roomy(samples.len(), file_size(samples.len()), room) {
-        return refusal::ROOM;
-    }
-    if !samples::all_samples(samples) {
-        return refusal::SAMPLE;
-    }
-    0
+    rated(rate)?;
+    roomy(samples.len(), file_size(samples.len()), room)?;
+    within(Refusal::Sample, samples::loudest(samples), 0, 8_388_607)
 }

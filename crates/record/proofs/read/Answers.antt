@@ -1,38 +1,32 @@
 -- `record::read` meets its contract: refused, or the fields and how many bytes they take.
-use mathlib.Core.Path.{refl, sym, ap, ◌∙◌}
-use mathlib.Core.List.{List, ◌∷◌}
-use Prim.Native.Nat.{ℕ}
-use native.Mathlib.Omega.{arith}
-use lib.ListN.{drop}
+use Rattle.std.proofs.Common.{ap, ◌∙◌, ℕ, List, ◌∷◌, drop, arith}
 use Rattle.octets.specs.Theorems.{Bytes}
+use Rattle.refusal.proofs.Numbers.{refused-above}
+use Rattle.record.specs.Record.{bytes}
 use Rattle.record.proofs.Words.{cuts-of, cut-fields}
 use Rattle.record.proofs.Reading.{refused-fields, refused-rest, taken-rest}
 use Rattle.record.proofs.read.Goals as goal
 
-pub returns-then-code-ne0 : goal.returns-then-code-ne0
-returns-then-code-ne0 c =
+pub returns-in-Ok-clause-fields_after : goal.returns-in-Ok-clause-fields_after
+returns-in-Ok-clause-fields_after c =
     let s = c.args.s.now in
-    let e = c.refused-code.ensures.0 in
-    record {
-      fields_after = c.refuse.ensures ∙ refused-fields s e c.if-code-ne0.true;
-      upper_bound = (omega arith, refused-rest s e c.if-code-ne0.true);
-    }
-
-pub bounds-s-0 : goal.bounds-s-0
-bounds-s-0 c = let h = c.refused-code.ensures.1 c.if-code-ne0.false in omega (arith, h)
-
-pub overflow_cast-map : goal.overflow_cast-map
-overflow_cast-map c = omega (arith, c.type_inv.s 0)
-
-pub returns : goal.returns
-returns c =
-    let s = c.args.s.now in
+    let a = c.in-Ok.ensures in
     let known : Bytes s = λ j. omega (arith, c.type_inv.s j) in
-    let e = sym c.if-code-ne0.false ∙ c.refused-code.ensures.0 in
-    let h = c.refused-code.ensures.1 c.if-code-ne0.false in
-    record {
-      fields_after = c.fill.ensures
-          ∙ ap (λ (l : List ℕ). 0 ∷ l) (cuts-of s refl c.words_of.ensures.0 c.words_of.ensures.1)
-          ∙ cut-fields s known e;
-      upper_bound = (omega (arith, h, c.bytes.ensures), ap (λ (n : ℕ). drop n s) c.bytes.ensures ∙ taken-rest s e);
-    }
+    c.fill.ensures
+    ∙ ap (λ (l : List ℕ). 0 ∷ l) (cuts-of s a.whole.0 c.words_of.ensures.0 c.words_of.ensures.1)
+    ∙ cut-fields s known a.number
+
+pub returns-in-Ok-clause-upper_bound : goal.returns-in-Ok-clause-upper_bound
+returns-in-Ok-clause-upper_bound c =
+    let s = c.args.s.now in
+    let a = c.in-Ok.ensures in
+    let e = c.bytes.ensures ∙ ap bytes a.whole.0 in
+    (omega (arith, a.whole.1, c.bytes.ensures), ap (λ (n : ℕ). drop n s) e ∙ taken-rest s a.number)
+
+pub returns-in-Err-clause-fields_after : goal.returns-in-Err-clause-fields_after
+returns-in-Err-clause-fields_after c =
+    c.refuse.ensures ∙ refused-fields c.args.s.now c.in-Err.ensures.number (refused-above c.in-Err.refusal)
+
+pub returns-in-Err-clause-upper_bound : goal.returns-in-Err-clause-upper_bound
+returns-in-Err-clause-upper_bound c =
+    (omega arith, refused-rest c.args.s.now c.in-Err.ensures.number (refused-above c.in-Err.refusal))

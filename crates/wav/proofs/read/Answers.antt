@@ -1,5 +1,4 @@
--- `wav::read` meets its contract: by the number of its tests.
--- Assumes nothing.
+-- `wav::read` meets its contract: by its tests.
 use mathlib.Core.Path.{◌≡◌, sym, ap, ◌∙◌}
 use mathlib.Core.List.{List, ◌++◌, map}
 use Prim.Native.Nat.{ℕ, ◌≤◌}
@@ -10,6 +9,7 @@ use lib.Seq.{length-take-le}
 use Rattle.integer.specs.Rounding.{clip}
 use Rattle.octets.specs.Octets.{loaded}
 use Rattle.riff.specs.Held.{rate_of, count_of, held_in, samples_of}
+use Rattle.refusal.proofs.Numbers.{refused-above}
 use Rattle.wav.specs.Recorded.{reading_number}
 use Rattle.wav.specs.Refusals.{IsFile, Rated, Room}
 use Rattle.wav.proofs.Files.{long-held}
@@ -29,43 +29,49 @@ module _ (t : List ℕ) (into : List ℤ) (n : ℕ) (z : reading_number t (lengt
   many : length (take n into) ≡ n
   many = length-take-le n into fits
 
-pub returns-then-refusal-ne0 : goal.returns-then-refusal-ne0
-returns-then-refusal-ne0 c =
+pub returns-in-Err-clause-value : goal.returns-in-Err-clause-value
+returns-in-Err-clause-value c =
     let s = c.args.file.now in
-    let old = c.args.samples.now in
-    let number = c.read_number-refusal.ensures in
-    let f : reading_number s (length old) ≡ 0 → ⊥ = λ z. c.if-refusal-ne0.true (number ∙ z) in
-    record { value = rw number (sym (read-refused s (length old) f)); samples_after = sym (filled-refused s old f) }
+    let n = length c.args.samples.now in
+    let e : c.number.result ≡ reading_number s n = c.number.ensures ∙ c.in-Err.ensures in
+    let f : reading_number s n ≡ 0 → ⊥ = λ z. refused-above c.in-Err.refusal (sym c.number.ensures ∙ e ∙ z) in
+    rw e (sym (read-refused s n f))
+
+pub returns-in-Err-clause-samples_after : goal.returns-in-Err-clause-samples_after
+returns-in-Err-clause-samples_after c =
+    sym
+    (filled-refused c.args.file.now c.args.samples.now
+    (λ z. refused-above c.in-Err.refusal (c.in-Err.ensures ∙ z)))
 
 pub slice_bounds-load-end : goal.slice_bounds-load-end
 slice_bounds-load-end c =
-    fits c.args.file.now c.args.samples.now _ (sym c.read_number-refusal.ensures ∙ c.if-refusal-ne0.false)
-    c.count_of-count.ensures.0
+    fits c.args.file.now c.args.samples.now _ (sym c.in_default.ensures) c.count_of-count.ensures.0
 
 pub slice_bounds-load-end-2 : goal.slice_bounds-load-end-2
 slice_bounds-load-end-2 c =
-    sym
-    (many c.args.file.now c.args.samples.now _ (sym c.read_number-refusal.ensures ∙ c.if-refusal-ne0.false)
-    c.count_of-count.ensures.0)
+    sym (many c.args.file.now c.args.samples.now _ (sym c.in_default.ensures) c.count_of-count.ensures.0)
 
 pub load-requires : goal.load-requires
 load-requires c =
     let t = c.args.file.now in
     let into = c.args.samples.now in
     let n = c.count_of-count.ensures.0 in
-    let z = sym c.read_number-refusal.ensures ∙ c.if-refusal-ne0.false in
+    let z = sym c.in_default.ensures in
     omega (arith, many t into _ z n, n, long-held t (met t into _ z n).0)
 
-pub returns : goal.returns
+pub returns-clause-value : goal.returns-clause-value
+returns-clause-value c =
+    let t = c.args.file.now in
+    let n = c.count_of-count.ensures.0 in
+    rw (c.rate_of.ensures, n) (sym (read_done t (length c.args.samples.now) (sym c.in_default.ensures)))
+
+pub returns-clause-samples_after : goal.returns-clause-samples_after
 unfolding samples_of held_in
-returns c =
+returns-clause-samples_after c =
     let t = c.args.file.now in
     let into = c.args.samples.now in
     let n = c.count_of-count.ensures.0 in
-    let z = sym c.read_number-refusal.ensures ∙ c.if-refusal-ne0.false in
-    let read : c.load.new.samples ≡ samples_of t
-    = c.load.ensures ∙ ap (λ (m : ℕ). map clip (loaded 3 m (drop 44 t))) (many t into _ z n ∙ n) in
-    record {
-      value = rw (c.rate_of.ensures, n) (sym (read_done t (length into) z));
-      samples_after = rw read (ap (λ (m : ℕ). samples_of t ++ drop m into) n ∙ sym (filled-done t into z));
-    }
+    let z = sym c.in_default.ensures in
+    let read : c.load.new.samples ≡ samples_of t =
+    c.load.ensures ∙ ap (λ (m : ℕ). map clip (loaded 3 m (drop 44 t))) (many t into _ z n ∙ n) in
+    rw read (ap (λ (m : ℕ). samples_of t ++ drop m into) n ∙ sym (filled-done t into z))

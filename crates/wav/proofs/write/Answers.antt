@@ -1,36 +1,38 @@
--- `wav::write` meets its contract: by the number of its tests.
--- Assumes nothing.
-use mathlib.Core.Path.{◌≡◌, sym, ◌∙◌}
-use lib.ListN.{length}
+-- `wav::write` meets its contract: by its tests.
+use Rattle.std.proofs.Common.{◌≡◌, sym, ◌∙◌, length}
 use Rattle.rule.proofs.Refusals.{unquiet}
+use Rattle.refusal.proofs.Numbers.{refused-above}
 use Rattle.wav.specs.Written.{write_number}
 use Rattle.wav.proofs.Refusals.{writes}
 use Rattle.wav.proofs.Results.{write_done, write_refused, left-done, left-refused}
 use Rattle.wav.proofs.write.Goals as goal
 
-pub returns-then-refusal-ne0 : goal.returns-then-refusal-ne0
-returns-then-refusal-ne0 c =
+pub returns-in-Err-clause-value : goal.returns-in-Err-clause-value
+returns-in-Err-clause-value c =
     let a = c.args in
-    let xs = a.samples.now in
-    let old = a.file.now in
-    let number = c.write_number-refusal.ensures in
-    let f : write_number a.rate xs (length old) ≡ 0 → ⊥ = λ z. c.if-refusal-ne0.true (number ∙ z) in
-    let e = sym (write_refused a.rate xs (length old) f) in
-    record { value = rw number e; file_after = sym (left-refused a.rate xs old f) }
+    let e : c.number.result ≡ write_number a.rate a.samples.now (length a.file.now) =
+    c.number.ensures ∙ c.in-Err.ensures in
+    let f : write_number a.rate a.samples.now (length a.file.now) ≡ 0 → ⊥ =
+    λ z. refused-above c.in-Err.refusal (sym c.number.ensures ∙ e ∙ z) in
+    rw e (sym (write_refused a.rate a.samples.now (length a.file.now) f))
+
+pub returns-in-Err-clause-file_after : goal.returns-in-Err-clause-file_after
+returns-in-Err-clause-file_after c =
+    let a = c.args in
+    sym (left-refused a.rate a.samples.now a.file.now (λ z. refused-above c.in-Err.refusal (c.in-Err.ensures ∙ z)))
 
 pub fill-requires : goal.fill-requires
 fill-requires c =
     let a = c.args in
-    let zero = sym c.write_number-refusal.ensures ∙ c.if-refusal-ne0.false in
-    let p = (writes a.rate a.samples.now (length a.file.now)).accepted.0 zero in
+    let p = (writes a.rate a.samples.now (length a.file.now)).accepted.0 (sym c.in_default.ensures) in
     (p.1.0.long, unquiet p.1.1)
 
-pub returns : goal.returns
-returns c =
+pub returns-clause-value : goal.returns-clause-value
+returns-clause-value c =
     let a = c.args in
-    let xs = a.samples.now in
-    let zero = sym c.write_number-refusal.ensures ∙ c.if-refusal-ne0.false in
-    record {
-      value = rw c.file_size.ensures (sym (write_done a.rate xs (length a.file.now) zero));
-      file_after = c.fill.ensures ∙ sym (left-done a.rate xs a.file.now zero);
-    }
+    rw c.file_size.ensures (sym (write_done a.rate a.samples.now (length a.file.now) (sym c.in_default.ensures)))
+
+pub returns-clause-file_after : goal.returns-clause-file_after
+returns-clause-file_after c =
+    let a = c.args in
+    c.fill.ensures ∙ sym (left-done a.rate a.samples.now a.file.now (sym c.in_default.ensures))

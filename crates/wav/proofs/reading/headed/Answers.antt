@@ -22,6 +22,6 @@ slice_bounds-same-end c = sym (length-take-le 44 c.args.file.now c.requires.0)
 pub returns : goal.returns
 returns c =
     let a = c.args in
-    let e : c.header.new.file ≡ header a.rate a.count
-    = c.header.ensures ∙ over _ (header a.rate a.count) (sym (header-length a.rate a.count)) in
+    let h = header a.rate a.count in
+    let e : c.header.new.file ≡ h = rw c.from.ensures at c.header.ensures ∙ over _ h (sym (header-length a.rate a.count)) in
     rw e at c.same.ensures
