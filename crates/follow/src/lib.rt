@@ -2,20 +2,24 @@
 // A record is the nine numbers that reading it gives.
 #![tactic(auto)]
 
-ghost use Rattle.std.specs.Prelude.{◌≡◌, true, false, ◌↔◌, List, [], ◌∷◌, ℤ};
+ghost use Rattle.std.specs.Prelude.{◌≡◌, true, false, ◌↔◌, List, [], ◌∷◌, ℕ, ℤ};
 ghost use Rattle.rule.specs.Calls.{announce as Announce};
 ghost use Rattle.rule.specs.State.{State};
 ghost use Rattle.voice.specs.Struct.{state_of};
+ghost use Rattle.refusal.specs.Numbers.{code_of};
 ghost use Rattle.voice.specs.Valid.{Fit, Valid};
+ghost use Rattle.voice.specs.Called.{answered};
+ghost use Rattle.record.specs.Record.{fields, record_number};
 ghost use Rattle.follow.specs.Follow.{loss_calls, change_calls, change_to, pluck_calls, act_calls, Announces};
 ghost use Rattle.follow.specs.Does.{Does};
 
 use crate::changes::chosen;
 use record::{
     AMPLITUDE, COUNT, HAS_AMPLITUDE, HAS_COUNT, HAS_DELAY, HAS_LENGTH, HAS_LOSS, INSTANT, LOSS,
-    MAP, SEED, bit,
+    MAP, NUMBER, SEED, bit,
 };
-use voice::{Answer, Head};
+use refusal::Refusal;
+use voice::{Head, Pluck};
 
 pub mod changes;
 
@@ -23,32 +27,26 @@ pub mod changes;
 const PLUCK: u32 = 100;
 
 // Sets G, where the record has one.
-fn set_loss(head: Head, r: &[u32; 9]) -> Answer
+fn set_loss(head: Head, r: &[u32; 9]) -> Result<Head, Refusal>
     requires { Fit head }
     ensures { (l : List ℤ) → Valid head l
-        → Does head l (loss_calls r.now (state_of head l)) result l }
+        → Does head l (loss_calls r.now (state_of head l)) (answered head result) l }
 {
     if bit(r[MAP], HAS_LOSS) == 0 {
-        return Answer {
-            refusal: 0,
-            head: head,
-        };
+        return Ok(head);
     }
     open::calls::loss(head, r[LOSS])
 }
 
 // Changes L or d, where the record has one of them.
-fn change(line: &[i32; 2112], head: Head, r: &[u32; 9]) -> Answer
+fn change(line: &[i32; 2112], head: Head, r: &[u32; 9]) -> Result<Head, Refusal>
     requires { Valid head line.now }
     ensures { Does head line.now
-        (change_calls r.now (state_of head line.now)) result line.now }
+        (change_calls r.now (state_of head line.now)) (answered head result) line.now }
 {
     let map = r[MAP];
     if bit(map, HAS_LENGTH) + bit(map, HAS_DELAY) == 0 {
-        return Answer {
-            refusal: 0,
-            head: head,
-        };
+        return Ok(head);
     }
     if bit(map, INSTANT) == 0 {
         return changes::announce(head, r);
@@ -57,20 +55,37 @@ fn change(line: &[i32; 2112], head: Head, r: &[u32; 9]) -> Answer
 }
 
 // Plucks, where the record has an amplitude, for its count or 100 samples.
-fn pluck(head: Head, r: &[u32; 9]) -> Answer
+fn pluck(head: Head, r: &[u32; 9]) -> Result<Head, Refusal>
     requires { Fit head }
     ensures { (l : List ℤ) → Valid head l
-        → Does head l (pluck_calls r.now (state_of head l)) result l }
+        → Does head l (pluck_calls r.now (state_of head l)) (answered head result) l }
 {
     let map = r[MAP];
     if bit(map, HAS_AMPLITUDE) == 0 {
-        return Answer {
-            refusal: 0,
-            head: head,
-        };
+        return Ok(head);
     }
-    let count = chosen(bit(map, HAS_COUNT), r[COUNT], PLUCK);
-    open::calls::pluck(head, r[AMPLITUDE], count, r[SEED])
+    open::calls::pluck(
+        head,
+        Pluck {
+            amplitude: r[AMPLITUDE],
+            left: chosen(bit(map, HAS_COUNT), r[COUNT], PLUCK),
+            noise: r[SEED],
+        },
+    )
+}
+
+// What reading a record was refused by: 14, 15.
+pub fn unread(r: &[u32; 9]) -> Result<(), Refusal>
+    ensures { (s : List ℕ) → r.now ≡ fields s → code_of result ≡ record_number s }
+{
+    // A number and not a Result: C lends the nine numbers that a record is read into.
+    if r[NUMBER] == 0 {
+        return Ok(());
+    }
+    if r[NUMBER] == Refusal::CutShort.number() {
+        return Err(Refusal::CutShort);
+    }
+    Err(Refusal::BitMap)
 }
 
 // Whether a record sets anything.
@@ -98,28 +113,24 @@ pub fn announces(r: &[u32; 9]) -> bool
     change != 0
 }
 
-// The parts of a record, where it has them: G, then the change, then the pluck, until one is refused.
-fn parts(line: &[i32; 2112], head: Head, r: &[u32; 9]) -> Answer
-    requires { Valid head line.now }
-    ensures { Does head line.now
-        (act_calls r.now (state_of head line.now)) result line.now }
+// The parts of a record, where it has them: G, then the change, then the pluck. Where one is refused, the head is as
+// those before it left it.
+fn parts(line: &[i32; 2112], head: &mut Head, r: &[u32; 9]) -> Result<(), Refusal>
+    requires { Valid head.old line.now }
+    ensures { Does head.old line.now (act_calls r.now (state_of head.old line.now))
+        (record { refusal = code_of result; head = head.new }) line.now }
 {
-    let g = set_loss(head, r);
-    if g.refusal != 0 {
-        return g;
-    }
-    let c = change(line, g.head, r);
-    if c.refusal != 0 {
-        return c;
-    }
-    pluck(c.head, r)
+    *head = set_loss(*head, r)?;
+    *head = change(line, *head, r)?;
+    *head = pluck(*head, r)?;
+    Ok(())
 }
 
 // What a record sets: its parts, or an instant change where it has no other.
-pub fn act(line: &[i32; 2112], head: Head, r: &[u32; 9]) -> Answer
-    requires { Valid head line.now }
-    ensures { Does head line.now
-        (act_calls r.now (state_of head line.now)) result line.now }
+pub fn act(line: &[i32; 2112], head: &mut Head, r: &[u32; 9]) -> Result<(), Refusal>
+    requires { Valid head.old line.now }
+    ensures { Does head.old line.now (act_calls r.now (state_of head.old line.now))
+        (record { refusal = code_of result; head = head.new }) line.now }
 {
     let map = r[MAP];
     if bit(map, HAS_LENGTH) + bit(map, HAS_DELAY) == 0 {
@@ -131,5 +142,6 @@ pub fn act(line: &[i32; 2112], head: Head, r: &[u32; 9]) -> Answer
     if bit(map, INSTANT) == 0 {
         return parts(line, head, r);
     }
-    changes::at_once(line, head, r)
+    *head = changes::at_once(line, *head, r)?;
+    Ok(())
 }

@@ -1,20 +1,22 @@
 -- What `merge` returns, in each of its ends.
 use mathlib.Core.Path.{◌≡◌, refl, sym, ap, subst, ◌∙◌}
-use mathlib.Core.Bool.{Bool, true, false}
+use mathlib.Core.Bool.{Bool, true, false, false≢true}
 use mathlib.Core.List.{List, ◌++◌}
 use Prim.Native.Nat.{ℕ, ◌+◌, ◌≤◌, ◌<◌}
 use native.Mathlib.Omega.{arith}
-use native.Mathlib.Decide.{ℕ_discrete}
 use lib.ListN.{length, get_or, take, drop, length-append}
 use lib.Seq.{length-take-le}
 use Rattle.octets.specs.Octets.{laid}
 use Rattle.octets.specs.Theorems.{Bytes}
 use Rattle.octets.proofs.Laws.{laid_next, laid-length}
-use Rattle.refusal.proofs.Passed.{first-kept, rest-kept}
-use Rattle.refusal.proofs.Returned.{returned}
-use Rattle.score.specs.Run.{opening, header_limits}
+use Rattle.std.specs.Prelude.{Result, Ok, Err, is_err}
+use Rattle.refusal.specs.declared.Refusal.{Refusal}
+use Rattle.refusal.specs.Numbers.{number_of, code_of}
+use Rattle.score.specs.Run.{opening}
 use Rattle.outline.specs.Outline.{Outline, opened, run}
-use Rattle.outline.specs.Struct.{outline_of, Order}
+use Rattle.outline.specs.Struct.{outline_of, ended as outcome}
+use Rattle.outline.specs.declared.Stopped.{Stopped}
+use Rattle.refusal.proofs.Numbers.{refused-above}
 use Rattle.outline.specs.declared.Course.{Course}
 use Rattle.timeline.specs.Merged.{merged_records, all_bytes, merge_of}
 use Rattle.timeline.specs.Theorems.{Plays}
@@ -22,9 +24,8 @@ use Rattle.timeline.specs.Answered.{OneHeader, BothPlay, Fits, Answered}
 use Rattle.timeline.proofs.Merging.{ended, eight, alone}
 use Rattle.timeline.proofs.Whole.{ends-plays, plays-ends}
 use Rattle.merge.specs.Left.{LeftAt}
-use Rattle.merge.specs.Walk.{begin, all_of, Fitting, Walks}
+use Rattle.merge.specs.Walk.{begin, all_of, Fitting, length_of, Walks}
 use Rattle.merge.proofs.Starting.{all-is, starts}
-use Rattle.merge.specs.declared.MergeEnd.{MergeEnd}
 
 module _ (a b before : List ℕ) where
   pub differs : (OneHeader a b → ⊥) → Answered a b before 28 0 before
@@ -71,11 +72,21 @@ module _ (a b before : List ℕ) where
       }
 
 -- ---- a score alone, by its end
-pub plays : (s : List ℕ) {n : ℕ} → n ≡ (run s).number → n ≡ 0 → Plays s
-plays s e z = (alone s).outlined.1 (sym e ∙ z)
+-- it is refused, or it is not
+ends-0 : (x : Result ℕ Stopped) → is_err x ≡ false → (outcome x).refusal ≡ 0
+ends-0 (Ok n) e = refl
+ends-0 (Err s) e = absurd (false≢true (sym e))
 
-pub plays-not : (s : List ℕ) {n : ℕ} → n ≡ (run s).number → (n ≡ 0 → ⊥) → Plays s → ⊥
-plays-not s e f p = f (e ∙ (alone s).outlined.0 p)
+ends-above : (x : Result ℕ Stopped) → is_err x ≡ true → (outcome x).refusal ≡ 0 → ⊥
+ends-above (Ok n) e = absurd (false≢true e)
+ends-above (Err s) e = refused-above s.refusal
+
+pub plays : (s : List ℕ) (x : Result ℕ Stopped) → (outcome x).refusal ≡ (run s).number → is_err x ≡ false → Plays s
+plays s x e f = (alone s).outlined.1 (sym e ∙ ends-0 x f)
+
+pub plays-not : (s : List ℕ) (x : Result ℕ Stopped) → (outcome x).refusal ≡ (run s).number → is_err x ≡ true
+    → Plays s → ⊥
+plays-not s x e f p = ends-above x f (e ∙ (alone s).outlined.0 p)
 
 -- ---- the walk's words for a merge that plays and fits
 module _ (a b : List ℕ) (ha : Bytes a) (hb : Bytes b) (same : take 8 a ≡ take 8 b) (pa : Plays a) (pb : Plays b) where
@@ -122,51 +133,37 @@ module _ (a b : List ℕ) (ha : Bytes a) (hb : Bytes b) (same : take 8 a ≡ tak
     header-same l e = ap length e ∙ laid-length before 0 (take 8 a) (omega (arith, header-long, l))
 
     -- the second walk, after the first one found that all is well
-    pub second_walk : (x y : List ℕ) (r : MergeEnd) → Good (length before) → x ≡ laid before 0 (take 8 a)
+    pub second_walk : (x y : List ℕ) (r : Result ℕ Refusal) → Good (length before) → x ≡ laid before 0 (take 8 a)
         → Walks (opening a).N (opening a).Na (opened a) rs x true r y
-        → Answered a b before r.refusal r.length y
+        → Answered a b before (code_of r) (length_of r) y
     second_walk x y r g e w =
         let k : 8 ≤ length before = omega (arith, g.fits) in
         let l = header-same k e in
         let g' : Good (length x) = subst (λ (n : ℕ). Good n) (sym l) g in
         go x y r g e w l g'
       where
-        go : (x y : List ℕ) (r : MergeEnd) → Good (length before) → x ≡ laid before 0 (take 8 a)
+        go : (x y : List ℕ) (r : Result ℕ Refusal) → Good (length before) → x ≡ laid before 0 (take 8 a)
             → Walks (opening a).N (opening a).Na (opened a) rs x true r y → length x ≡ length before → Good (length x)
-            → Answered a b before r.refusal r.length y
-        go x y r g e w l g' = pick (ℕ_discrete r.refusal 0)
-          where
-            pick : Dec (r.refusal ≡ 0) → Answered a b before r.refusal r.length y
-            pick (no f) = absurd ((w.refused f).0 g')
-            pick (yes z) =
-                subst (λ (n : ℕ). Answered a b before n r.length y) (sym z)
-                (is-merged a b before same (pa, pb) (good_fits (length before) g)
-                ((w.accepted z).1 ∙ sym merge-long) (put_all x y g.fits e (w.written refl z)))
+            → Answered a b before (code_of r) (length_of r) y
+        go x y (Ok n) g e w l g' =
+            is-merged a b before same (pa, pb) (good_fits (length before) g) (w.walked.1 ∙ sym merge-long)
+            (put_all x y g.fits e (w.written refl refl))
+        go x y (Err k) g e w l g' = absurd (w.walked.0 g')
 
     -- the first walk refuses
-    pub first_stops : (y : List ℕ) (r : MergeEnd) → Walks (opening a).N (opening a).Na (opened a) rs before false r y
-        → (r.refusal ≡ 0 → ⊥) → Answered a b before r.refusal r.length y
-    first_stops y r w f =
-        let q = w.refused f in
-        rw (q.1, q.2, w.silent refl)
-        (not-merged a b before same (pa, pb) (λ x. q.0 (fits_good (length before) x)))
+    pub first_stops : (y : List ℕ) (k : Refusal) → Walks (opening a).N (opening a).Na (opened a) rs before false (Err k) y
+        → Answered a b before (number_of k) 0 y
+    first_stops y k w =
+        rw (w.walked.1, w.silent refl)
+        (not-merged a b before same (pa, pb) (λ x. w.walked.0 (fits_good (length before) x)))
 
 -- ---- the walk over the numbers that the code reads
-pub answer_as : (a b before : List ℕ) {k n m : ℕ} {after : List ℕ} → Answered a b before k 0 after → n ≡ k → m ≡ 0
-    → Answered a b before n m after
-answer_as a b before h e i = rw (e, i) h
-
 module _ (a b : List ℕ) (ha : Bytes a) (hb : Bytes b) (same : take 8 a ≡ take 8 b) (pa : Plays a) (pb : Plays b)
     (N Na : ℕ) (c : Course) (e : N ≡ get_or a 0 0) (i : Na ≡ get_or a 1 0) (j : outline_of c ≡ opened a) where
-  order_in : Order (opening a).N
-  order_in =
-      let k = first-kept (rest-kept ((returned (header_limits a) tt).accepted.0 (ended a pa.room pa.ends).header)) in
-      record { least = k.least; most = k.most }
+  pub walk_ready : (n : ℕ) → 8 ≤ n → (8 ≤ n) × LeftAt N Na a b (begin c) (all_of N Na (outline_of c) a b)
+  walk_ready n l = rw (e, i) (l, starts a b ha hb same pa pb c j)
 
-  pub walk_ready : (n : ℕ) → 8 ≤ n → Order N × (8 ≤ n) × LeftAt N Na a b (begin c) (all_of N Na (outline_of c) a b)
-  walk_ready n l = rw (e, i) (order_in, l, starts a b ha hb same pa pb c j)
-
-  pub walk_is : {x y : List ℕ} {w : Bool} {r : MergeEnd}
+  pub walk_is : {x y : List ℕ} {w : Bool} {r : Result ℕ Refusal}
       → Walks N Na (outline_of c) (all_of N Na (outline_of c) a b) x w r y
       → Walks (opening a).N (opening a).Na (opened a) (merged_records a b) x w r y
   walk_is {x} {y} {w} {r} h =

@@ -5,13 +5,16 @@ use mathlib.Core.List.{List, [], ◌∷◌, ◌++◌}
 use Prim.Native.Nat.{ℕ, ◌+◌, ◌-◌, ◌≤◌, ◌<◌}
 use native.Mathlib.Omega.{arith}
 use lib.ListN.{length, get_or, drop, length-append, length-drop}
+use Rattle.std.specs.Prelude.{Result, Ok, Err}
+use Rattle.refusal.specs.declared.Refusal.{Refusal}
+use Rattle.refusal.specs.declared.Refusal.TheVariants.{Merge}
+use Rattle.refusal.proofs.Numbers.{refused-above}
 use Rattle.octets.specs.Octets.{laid}
 use Rattle.octets.proofs.Laws.{laid_nil, laid_next}
 use Rattle.record.specs.Record.{bytes}
 use Rattle.outline.specs.Outline.{Outline, from, result, record_calls}
-use Rattle.outline.specs.Struct.{outline_of, Follows}
+use Rattle.outline.specs.Struct.{outline_of, Comes}
 use Rattle.outline.specs.declared.Course.{Course}
-use Rattle.outline.specs.declared.Effect.{Effect}
 use Rattle.timeline.specs.Merge.{merge}
 use Rattle.timeline.specs.Events.{events}
 use Rattle.timeline.specs.Order.{at}
@@ -84,21 +87,20 @@ module _ (N Na : ℕ) (o : Outline) (first second : List ℕ) (rs : List (List �
     on a e = record { ls = w.left; left = w.on_way; some = a.some e }
 
     pub all_walked : {b : Bool} → AnyLeft first second p b → b ≡ false
-        → Walks N Na o rs before writes (record { refusal = 0; length = put }) out
+        → Walks N Na o rs before writes (Ok put) out
     all_walked a e =
         let q = a.none e in
         let z = at-end N Na w.on_way q.0 q.1 in
         let bytes-none = ap (λ (l : List (List ℕ)). all_bytes l) z ∙ no_bytes in
         let long : put ≡ 8 + length (all_bytes rs) = omega (arith, w.long, ap length bytes-none) in
         record {
-          accepted = λ _. (
+          walked = (
             record {
               ends = w.ends-to (subst (λ (l : List (List ℕ)). Ends N Na (outline_of c) l) (sym z) done);
               fits = omega (arith, long, w.within);
             },
             long,
           );
-          refused = λ f. absurd (f refl);
           silent = w.silent;
           written = λ t _.
               sym (laid_nil out put) ∙ ap (λ (x : List ℕ). laid out put x) (sym bytes-none)
@@ -106,10 +108,9 @@ module _ (N Na : ℕ) (o : Outline) (first second : List ℕ) (rs : List (List �
         }
 
     -- it stops with 30
-    stops : (Fitting N Na o rs (length before) → ⊥) → Walks N Na o rs before writes (record { refusal = 30; length = 0 }) out
+    stops : (Fitting N Na o rs (length before) → ⊥) → Walks N Na o rs before writes (Err Merge) out
     stops f = record {
-      accepted = λ e. absurd (omega arith);
-      refused = λ _. (f, refl, refl);
+      walked = (f, refl);
       silent = w.silent;
       written = λ _ e. absurd (omega arith);
     }
@@ -134,33 +135,38 @@ module _ (N Na : ℕ) (o : Outline) (first second : List ℕ) (rs : List (List �
             record-length q,
           )
 
-      module _ {e : Effect} (f : Follows N Na (outline_of c) q e) where
-        pub refused : (e.refusal ≡ 0 → ⊥) → Walks N Na o rs before writes (record { refusal = 30; length = 0 }) out
-        refused g = stops (λ x. g (f.number ∙ (left_is x.ends).0))
+      -- what it comes to as the next record
+      abbrev pub Coming : Result Course Refusal → Type 0
+      Coming =
+          Comes (result Na (outline_of c) (record_calls N Na q (outline_of c)))
+          (from Na (outline_of c) (record_calls N Na q (outline_of c)))
 
-        pub too_long : {n : ℕ} → n ≡ bytes (get_or q 1 0) → length out - put < n
-            → Walks N Na o rs before writes (record { refusal = 30; length = 0 }) out
-        too_long i l = stops (λ x. let y = x.fits in omega (arith, i, l, y, long-is, w.same, w.within))
+      pub refused : (r : Refusal) → Coming (Err r) → Walks N Na o rs before writes (Err Merge) out
+      refused r h = stops (λ x. refused-above r (h ∙ (left_is x.ends).0))
 
-        pub walks_on : e.refusal ≡ 0 → {n : ℕ} → n ≡ bytes (get_or q 1 0) → n ≤ length out - put → {after : List ℕ}
-            → Puts out put q writes after → Walking p' e.course (put + n) after
-        walks_on z {n} i l {after} h =
-            let r = record-length q in
-            let k = f.course_is z in
-            let fits : put + length (record_bytes q) ≤ length out = omega (arith, r, i, l, w.same, w.within) in
-            record {
-              left = t.rest_of;
-              on_way = t.left;
-              ends-to = λ x. w.ends-to
-                  (subst (λ (ls : List (List ℕ)). Ends N Na (outline_of c) ls) (sym t.is)
-                  (next (sym f.number ∙ z) (subst (λ (u : Outline). Ends N Na u t.rest_of) k x)));
-              ends-from = λ x. subst (λ (u : Outline). Ends N Na u t.rest_of) (sym k) (left_is x).1;
-              long = omega (arith, long-is, i);
-              within = omega (arith, fits, r, i, w.same);
-              same = h.same ∙ w.same;
-              silent = λ x. h.silent x ∙ w.silent x;
-              written = λ x y.
-                  ap (λ (d : List ℕ). laid d (put + n) (all_bytes t.rest_of)) (h.wrote x)
-                  ∙ laid_next out put (record_bytes q) fits (put + n) (all_bytes t.rest_of) (omega (arith, r, i))
-                  ∙ ap (λ (d : List ℕ). laid out put d) (sym bytes_are) ∙ w.written x y;
-            }
+      pub too_long : {n : ℕ} → n ≡ bytes (get_or q 1 0) → length out - put < n
+          → Walks N Na o rs before writes (Err Merge) out
+      too_long i l = stops (λ x. let y = x.fits in omega (arith, i, l, y, long-is, w.same, w.within))
+
+      pub walks_on : (d : Course) → Coming (Ok d) → {n : ℕ} → n ≡ bytes (get_or q 1 0) → n ≤ length out - put
+          → {after : List ℕ} → Puts out put q writes after → Walking p' d (put + n) after
+      walks_on d e {n} i l {after} h =
+          let r = record-length q in
+          let k = e.1 in
+          let fits : put + length (record_bytes q) ≤ length out = omega (arith, r, i, l, w.same, w.within) in
+          record {
+            left = t.rest_of;
+            on_way = t.left;
+            ends-to = λ x. w.ends-to
+                (subst (λ (ls : List (List ℕ)). Ends N Na (outline_of c) ls) (sym t.is)
+                (next (sym e.0) (subst (λ (u : Outline). Ends N Na u t.rest_of) k x)));
+            ends-from = λ x. subst (λ (u : Outline). Ends N Na u t.rest_of) (sym k) (left_is x).1;
+            long = omega (arith, long-is, i);
+            within = omega (arith, fits, r, i, w.same);
+            same = h.same ∙ w.same;
+            silent = λ x. h.silent x ∙ w.silent x;
+            written = λ x y.
+                ap (λ (d : List ℕ). laid d (put + n) (all_bytes t.rest_of)) (h.wrote x)
+                ∙ laid_next out put (record_bytes q) fits (put + n) (all_bytes t.rest_of) (omega (arith, r, i))
+                ∙ ap (λ (d : List ℕ). laid out put d) (sym bytes_are) ∙ w.written x y;
+          }

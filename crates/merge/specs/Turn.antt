@@ -1,5 +1,5 @@
 -- What the parts of one turn of a merge need and return. Definitions alone.
-use Rattle.std.specs.Prelude.{◌≡◌, true, false, List, ℕ, ◌+◌, ◌-◌, ◌≤◌, ◌<◌, length, drop}
+use Rattle.std.specs.Prelude.{◌≡◌, List, ℕ, ◌+◌, ◌-◌, ◌≤◌, ◌<◌, length, drop}
 use Rattle.record.specs.Record.{fields, rest}
 use Rattle.follow.specs.Follow.{value}
 use Rattle.outline.specs.Outline.{from, result, record_calls}
@@ -7,6 +7,7 @@ use Rattle.outline.specs.Struct.{outline_of}
 use Rattle.timeline.specs.Events.{event}
 use Rattle.timeline.specs.Merged.{merge_record}
 use Rattle.merge.specs.declared.Choice.{Choice}
+use Rattle.merge.specs.declared.Choice.TheVariants.{First, Second}
 use Rattle.merge.specs.declared.Side.{Side}
 use Rattle.merge.specs.declared.Pair.{Pair}
 
@@ -28,15 +29,15 @@ module _ (first second : List ℕ) (p : Pair) where
     pub second_next : p.second.at < length second → Next second p.second
 
   -- "At equal moments the first score's records come first"
-  pub record Chosen (t : Choice) : Type 0 where
-    pub own : t.first ≡ true
-        → (p.first.at < length first)
-        × (t.wait ≡ wait_left first p.first)
-        × (p.second.at < length second → t.wait ≤ wait_left second p.second)
-    pub other : t.first ≡ false
-        → (p.second.at < length second)
-        × (t.wait ≡ wait_left second p.second)
-        × (p.first.at < length first → t.wait < wait_left first p.first)
+  abbrev pub Chosen : Choice → Type 0
+  Chosen (First wait) =
+      (p.first.at < length first)
+      × (wait ≡ wait_left first p.first)
+      × (p.second.at < length second → wait ≤ wait_left second p.second)
+  Chosen (Second wait) =
+      (p.second.at < length second)
+      × (wait ≡ wait_left second p.second)
+      × (p.first.at < length first → wait < wait_left first p.first)
 
 -- r is the score s behind its next record, whose merged record after a wait is q
 pub record Steps (N Na : ℕ) (score : List ℕ) (s : Side) (wait : ℕ) (r : Side) (q : List ℕ) : Type 0 where

@@ -1,7 +1,7 @@
 // The merged record of a record: its nine numbers, and their bytes.
-ghost use Rattle.std.specs.Prelude.{◌≡◌, ℕ, ◌+◌, ◌*◌, ◌/◌, ◌%◌, ◌≤◌, ◌<◌, min, length, get_or};
+ghost use Rattle.std.specs.Prelude.{◌≡◌, ℕ, ◌+◌, ◌*◌, ◌/◌, ◌%◌, ◌≤◌, ◌<◌, length, get_or};
 ghost use Rattle.octets.specs.Octets.{laid};
-ghost use Rattle.record.specs.Record.{bytes as Bytes, present as Present};
+ghost use Rattle.record.specs.Record.{bytes as Bytes};
 ghost use Rattle.follow.specs.Follow.{count_of};
 ghost use Rattle.timeline.specs.Merged.{changes as Changes, map_for, merge_record, field_bytes, record_bytes};
 
@@ -13,25 +13,11 @@ use record::{
     HAS_WAIT, INSTANT, LOSS, MAP, SEED, bit,
 };
 
-// 1 for a number above 0.
-fn above(n: u32) -> u32
-    ensures { result ≡ min n 1 }
-{
-    if n == 0 { 0 } else { 1 }
-}
-
-// A number where a bit stands, else 0.
-fn present(bit: u32, n: u32) -> u32
-    ensures { result ≡ Present bit n }
-{
-    if bit == 0 { 0 } else { n }
-}
-
 // 1 where a record changes L or d.
 fn changes(r: &[u32; 9]) -> u32
     ensures { result ≡ Changes r.now }
 {
-    above(bit(r[MAP], HAS_LENGTH) + bit(r[MAP], HAS_DELAY))
+    (bit(r[MAP], HAS_LENGTH) + bit(r[MAP], HAS_DELAY)).min(1)
 }
 
 // The bit map of a merged record.
@@ -40,7 +26,7 @@ fn merged_map(wait: u32, r: &[u32; 9]) -> u32
 {
     let map = r[MAP];
     let change = changes(r);
-    let low = above(wait) + 6 * change + 8 * bit(map, HAS_LOSS);
+    let low = wait.min(1) + 6 * change + 8 * bit(map, HAS_LOSS);
     low + 48 * bit(map, HAS_AMPLITUDE) + 64 * bit(map, HAS_SEED) + 128 * bit(map, INSTANT)
 }
 
@@ -60,11 +46,11 @@ pub fn merge_record(wait: u32, to: Span, r: &[u32; 9], q: &mut [u32; 9])
         0,
         merged_map(wait, r),
         wait,
-        present(change, to.length),
-        present(change, to.delay),
+        chosen(change, to.length, 0),
+        chosen(change, to.delay, 0),
         r[LOSS],
         r[AMPLITUDE],
-        present(bit(map, HAS_AMPLITUDE), count),
+        chosen(bit(map, HAS_AMPLITUDE), count, 0),
         r[SEED],
     ];
 }
@@ -99,11 +85,8 @@ pub fn put_record(out: &mut [u8], start: usize, q: &[u32; 9])
     put(out, start, 1, map as u64);
     let mut at = start + 1;
     let mut unit: u32 = 1;
-    let mut k = 0;
-    while k < 7 {
-        let to = put_field(out, at, bit(map, unit), q[k + 2]);
-        at = to;
-        unit = unit * 2;
-        k = k + 1;
+    for k in 0..7 {
+        at = put_field(out, at, bit(map, unit), q[k + 2]);
+        unit *= 2;
     }
 }

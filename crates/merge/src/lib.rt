@@ -4,23 +4,25 @@
 
 ghost use Rattle.std.specs.Prelude.{◌≡◌, ◌≤◌, length, take};
 ghost use Rattle.octets.specs.Octets.{laid};
-ghost use Rattle.outline.specs.Struct.{outline_of, EndsAs};
-ghost use Rattle.outline.specs.Outline.{opened as Opened, run as Run};
+ghost use Rattle.refusal.specs.Numbers.{code_of};
+ghost use Rattle.outline.specs.Struct.{outline_of, ended, EndsAs};
+ghost use Rattle.outline.specs.Outline.{in_force, run as Run};
 ghost use Rattle.timeline.specs.Answered.{Answered};
-ghost use Rattle.merge.specs.Walk.{SameHeader};
+ghost use Rattle.merge.specs.Walk.{SameHeader, Opens, length_of};
 
-use outline::{Course, RunEnd, Span, play};
-use record::word;
+use open::Opening;
+use outline::{Course, Span, Stopped, play};
+use refusal::{Refusal, code};
+use score::opening;
 
 mod fields;
-mod header;
 mod turn;
 mod walk;
 
-use header::header_number;
 use walk::walk;
 
 // What a merge returns: its refusal, and how many bytes it has.
+// A number and not a Result: C gets this struct by value.
 #[derive(Clone, Copy)]
 pub struct MergeEnd {
     pub refusal: u32,
@@ -42,84 +44,54 @@ pub struct Pair {
     pub second: Side,
 }
 
-// Which score the next record is from, and how many samples the merge waits for it.
+// Which score the next record is from, with how many samples the merge waits for it.
 #[derive(Clone, Copy)]
-pub struct Choice {
-    pub first: bool,
-    pub wait: u32,
-}
-
-// How many of the first 8 bytes a score has.
-fn header_length(s: &[u8]) -> usize
-    ensures { result ≡ length (take 8 s.now) }
-{
-    if s.len() < 8 {
-        return s.len();
-    }
-    8
+pub enum Choice {
+    First(u32),
+    Second(u32),
 }
 
 // Whether the first 8 bytes are the same; a missing byte is unlike any present one.
 fn same_header(a: &[u8], b: &[u8]) -> bool
     ensures { SameHeader a.now b.now result }
 {
-    let n = header_length(a);
-    if header_length(b) != n {
-        return false;
-    }
-    let mut i = 0;
-    while i < n {
-        if a[i] != b[i] {
-            return false;
-        }
-        i = i + 1;
-    }
-    true
+    let n = a.len().min(8);
+    let m = b.len().min(8);
+    a[..n] == b[..m]
 }
 
-// The course that a header opens.
-fn opening_course(s: &[u8]) -> Course
-    requires { 8 ≤ length s.now }
-    ensures { outline_of result ≡ Opened s.now }
+// The course that an opening starts.
+fn opening_course(o: Opening) -> Course
+    ensures { outline_of result ≡ in_force o.tuning.length o.tuning.delay }
 {
     let span = Span {
-        length: word(s, 2),
-        delay: word(s, 4),
+        length: o.tuning.length,
+        delay: o.tuning.delay,
     };
     Course {
-        span: span,
+        span,
         next: span,
         left: 0,
     }
 }
 
-// A byte as a number of 32 bits.
-fn wide(b: u8) -> u32
-    ensures { result ≡ b }
+// What a score's header opens, where it opens a voice.
+fn opened(s: &[u8]) -> Result<Opening, Refusal>
+    ensures { Opens s.now result }
 {
-    b as u32
+    let o = opening(s)?;
+    open::refused(o)?;
+    Ok(o)
 }
 
 // How a score ends alone, given output enough.
-pub fn alone(s: &[u8]) -> RunEnd
-    ensures { EndsAs (Run s.now) result }
+pub fn alone(s: &[u8]) -> Result<usize, Stopped>
+    ensures { EndsAs (Run s.now) (ended result) }
 {
-    if s.len() < 8 {
-        return RunEnd {
-            refusal: refusal::CUT_SHORT,
-            place: 0,
-        };
+    match opened(s) {
+        Ok(o) => play(o.tuning.order, o.advance, opening_course(o), &s[8..]),
+        Err(refusal) => Err(Stopped { refusal, place: 0 }),
     }
-    let order = wide(s[0]);
-    let advance = wide(s[1]);
-    let n = header_number(order, word(s, 2), word(s, 4), word(s, 6), advance);
-    if n != 0 {
-        return RunEnd {
-            refusal: n,
-            place: 0,
-        };
-    }
-    play(order, advance, opening_course(s), &s[8..])
 }
 
 // Puts the first 8 bytes of a score.
@@ -127,21 +99,39 @@ fn put_header(out: &mut [u8], s: &[u8])
     requires { (8 ≤ length s.now) × (8 ≤ length out.old) }
     ensures { out.new ≡ laid out.old 0 (take 8 s.now) }
 {
-    let mut i = 0;
-    while i < 8 {
-        out[i] = s[i];
-        i = i + 1;
-    }
+    out[..8].copy_from_slice(&s[..8]);
 }
 
-// A refused merge.
-fn refuse(number: u32) -> MergeEnd
-    ensures { (result.refusal ≡ number) × (result.length ≡ 0) }
+// The length of the merge of two scores, which is put into the bytes lent.
+fn put_merge(first: &[u8], second: &[u8], bytes: &mut [u8]) -> Result<usize, Refusal>
+    ensures { Answered first.now second.now bytes.old
+        (code_of result) (length_of result) bytes.new }
 {
-    MergeEnd {
-        refusal: number,
-        length: 0,
+    if !same_header(first, second) {
+        return Err(Refusal::Headers);
     }
+    if alone(first).is_err() {
+        return Err(Refusal::Alone);
+    }
+    if alone(second).is_err() {
+        return Err(Refusal::Alone);
+    }
+    if bytes.len() < 8 {
+        return Err(Refusal::Merge);
+    }
+    let o = opening(first)?;
+    let start = opening_course(o);
+    walk(
+        o.tuning.order,
+        o.advance,
+        start,
+        first,
+        second,
+        bytes,
+        false,
+    )?;
+    put_header(bytes, first);
+    walk(o.tuning.order, o.advance, start, first, second, bytes, true)
 }
 
 // Merges two scores into the bytes lent.
@@ -149,27 +139,9 @@ pub fn merge(first: &[u8], second: &[u8], bytes: &mut [u8]) -> MergeEnd
     ensures { Answered first.now second.now bytes.old
         result.refusal result.length bytes.new }
 {
-    if !same_header(first, second) {
-        return refuse(refusal::HEADERS);
+    let merged = put_merge(first, second, bytes);
+    MergeEnd {
+        refusal: code(merged),
+        length: merged.unwrap_or(0),
     }
-    let p = alone(first);
-    if p.refusal != 0 {
-        return refuse(refusal::ALONE);
-    }
-    let q = alone(second);
-    if q.refusal != 0 {
-        return refuse(refusal::ALONE);
-    }
-    if bytes.len() < 8 {
-        return refuse(refusal::MERGE);
-    }
-    let order = wide(first[0]);
-    let advance = wide(first[1]);
-    let start = opening_course(first);
-    let m = walk(order, advance, start, first, second, bytes, false);
-    if m.refusal != 0 {
-        return m;
-    }
-    put_header(bytes, first);
-    walk(order, advance, start, first, second, bytes, true)
 }

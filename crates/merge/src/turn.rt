@@ -1,6 +1,5 @@
 // One turn of a merge: the record that comes next, of the first score unless the second's is earlier.
 ghost use Rattle.std.specs.Prelude.{◌≡◌, List, ℕ, ◌+◌, ◌-◌, ◌≤◌, ◌<◌, length};
-ghost use Rattle.outline.specs.Struct.{Order};
 ghost use Rattle.merge.specs.Left.{LeftAt, OnWay, Took};
 ghost use Rattle.merge.specs.Turn.{wait_left, Next, Choosable, Chosen, Steps, Later};
 
@@ -28,48 +27,33 @@ fn turn(first: &[u8], second: &[u8], p: Pair) -> Choice
     let a = p.first;
     let b = p.second;
     if second.len() <= b.at {
-        return Choice {
-            first: true,
-            wait: wait_left(first, a),
-        };
+        return Choice::First(wait_left(first, a));
     }
     if first.len() <= a.at {
-        return Choice {
-            first: false,
-            wait: wait_left(second, b),
-        };
+        return Choice::Second(wait_left(second, b));
     }
     let x = wait_left(first, a);
     let y = wait_left(second, b);
     if x <= y {
-        return Choice {
-            first: true,
-            wait: x,
-        };
+        return Choice::First(x);
     }
-    Choice {
-        first: false,
-        wait: y,
-    }
+    Choice::Second(y)
 }
 
 // The score whose record it is, behind that record; q becomes the merged record.
 fn step(order: u32, advance: u32, score: &[u8], s: Side, wait: u32, q: &mut [u32; 9]) -> Side
-    requires { Order order × (s.at ≤ length score.now) }
+    requires { s.at ≤ length score.now }
     ensures { Steps order advance score.now s wait result q.new }
 {
     let at = s.at;
     let mut r = [0u32; 9];
     let rest = read_record(&score[at..], &mut r);
-    let c = s.course;
-    let e = follow(order, advance, c, &r);
-    let to = e.span;
-    let next = e.course;
-    merge_record(wait, to, &r, q);
+    let e = follow(order, advance, s.course, &r);
+    merge_record(wait, e.span, &r, q);
     Side {
         at: score.len() - rest.len(),
         since: 0,
-        course: next,
+        course: e.course.unwrap_or(s.course),
     }
 }
 
@@ -81,11 +65,9 @@ fn later(score: &[u8], s: Side, wait: u32) -> Side
     if score.len() <= s.at {
         return s;
     }
-    let c = s.course;
     Side {
-        at: s.at,
         since: s.since + wait,
-        course: c,
+        ..s
     }
 }
 
@@ -98,26 +80,26 @@ pub fn take_turn(
     p: Pair,
     q: &mut [u32; 9],
 ) -> Pair
-    requires { Order order × OnWay order advance first.now second.now p }
+    requires { OnWay order advance first.now second.now p }
     ensures { (ls : List (List ℕ)) → LeftAt order advance first.now second.now p ls
         → Took order advance first.now second.now ls p result q.new }
 {
-    let t = turn(first, second, p);
-    let wait = t.wait;
     let a = p.first;
     let b = p.second;
-    if t.first {
-        let x = step(order, advance, first, a, wait, q);
-        let y = later(second, b, wait);
-        return Pair {
-            first: x,
-            second: y,
-        };
-    }
-    let x = later(first, a, wait);
-    let y = step(order, advance, second, b, wait, q);
-    Pair {
-        first: x,
-        second: y,
+    match turn(first, second, p) {
+        Choice::First(wait) => {
+            let x = step(order, advance, first, a, wait, q);
+            Pair {
+                first: x,
+                second: later(second, b, wait),
+            }
+        }
+        Choice::Second(wait) => {
+            let y = step(order, advance, second, b, wait, q);
+            Pair {
+                first: later(first, a, wait),
+                second: y,
+            }
+        }
     }
 }

@@ -1,15 +1,16 @@
 // Both scores together, record by record: whether the merge plays and fits, and its bytes.
 ghost use Rattle.std.specs.Prelude.{◌+◌, ◌≤◌, ◌<◌, length, get_or};
 ghost use Rattle.record.specs.Record.{bytes as Bytes};
-ghost use Rattle.outline.specs.Struct.{outline_of, Order};
+ghost use Rattle.outline.specs.Struct.{outline_of};
 ghost use Rattle.merge.specs.Left.{LeftAt};
 ghost use Rattle.merge.specs.Walk.{AnyLeft, Puts, begin, all_of, Walks};
 
 use crate::fields::{put_record, size};
 use crate::turn::take_turn;
-use crate::{MergeEnd, Pair, Side};
+use crate::{Pair, Side};
 use outline::{Course, follow};
 use record::MAP;
+use refusal::Refusal;
 
 // Whether a record of either score is left.
 fn any_left(first: &[u8], second: &[u8], p: Pair) -> bool
@@ -42,8 +43,8 @@ pub fn walk(
     second: &[u8],
     out: &mut [u8],
     writes: bool,
-) -> MergeEnd
-    requires { Order order × (8 ≤ length out.old)
+) -> Result<usize, Refusal>
+    requires { (8 ≤ length out.old)
         × LeftAt order advance first.now second.now (begin start)
         (all_of order advance (outline_of start) first.now second.now) }
     ensures { Walks order advance (outline_of start)
@@ -64,26 +65,16 @@ pub fn walk(
     let mut q = [0u32; 9];
     while any_left(first, second, p) {
         p = take_turn(order, advance, first, second, p, &mut q);
-        let e = follow(order, advance, c, &q);
-        if e.refusal != 0 {
-            return MergeEnd {
-                refusal: refusal::MERGE,
-                length: 0,
-            };
-        }
+        let Ok(next) = follow(order, advance, c, &q).course else {
+            return Err(Refusal::Merge);
+        };
         let n = size(q[MAP]);
         if out.len() - done < n {
-            return MergeEnd {
-                refusal: refusal::MERGE,
-                length: 0,
-            };
+            return Err(Refusal::Merge);
         }
         put_next(out, done, &q, writes);
-        c = e.course;
-        done = done + n;
+        c = next;
+        done += n;
     }
-    MergeEnd {
-        refusal: 0,
-        length: done,
-    }
+    Ok(done)
 }

@@ -1,6 +1,8 @@
 -- The outline that the code's struct stands for, and what the routines return. Definitions alone.
-use Rattle.std.specs.Prelude.{◌≡◌, cond, List, ℕ, zero, suc, eqb, length}
+use Rattle.std.specs.Prelude.{◌≡◌, cond, List, ℕ, zero, suc, eqb, length, Result, Ok, Err}
 use Rattle.std.proofs.Math.Option.{Option, none, some}
+use Rattle.refusal.specs.declared.Refusal.{Refusal}
+use Rattle.refusal.specs.Numbers.{number_of}
 use Rattle.refusal.specs.Limits.{Between}
 use Rattle.refusal.specs.Orders.{orders}
 use Rattle.follow.specs.Follow.{value}
@@ -8,7 +10,7 @@ use Rattle.score.specs.Run.{Outcome}
 use Rattle.outline.specs.declared.Span.{Span}
 use Rattle.outline.specs.declared.Course.{Course}
 use Rattle.outline.specs.declared.Effect.{Effect}
-use Rattle.outline.specs.declared.RunEnd.{RunEnd}
+use Rattle.outline.specs.declared.Stopped.{Stopped}
 use Rattle.outline.specs.Outline.{Ahead, Outline, in_force, passed, from, result, length_to, delay_to}
 use Rattle.outline.specs.Outline.{change_calls, act_calls, record_calls, records}
 
@@ -39,24 +41,34 @@ after_change Na o L d i =
     (record { L = o.L; d = o.d; ahead = some (record { L = L; d = d; left = Na }) }))
     (in_force L d)
 
-module _ (N Na : ℕ) (o : Outline) (r : List ℕ) (x : Effect) where
+-- x is refused by n, or is the course that is the outline w where n is 0
+abbrev pub Comes : ℕ → Outline → Result Course Refusal → Type 0
+Comes n w (Ok c) = (0 ≡ n) × (outline_of c ≡ w)
+Comes n w (Err r) = number_of r ≡ n
+
+module _ (N Na : ℕ) (o : Outline) (r : List ℕ) where
   -- of the change of r alone
-  pub record Changes : Type 0 where
-    pub number : x.refusal ≡ result Na o (change_calls N r o)
-    pub course_is : x.refusal ≡ 0 → outline_of x.course ≡ from Na o (change_calls N r o)
-    pub asks : Asks o r x.span
+  abbrev pub Changes : Result Course Refusal → Type 0
+  Changes = Comes (result Na o (change_calls N r o)) (from Na o (change_calls N r o))
 
   -- of what r sets after its wait
-  pub record Acts : Type 0 where
-    pub number : x.refusal ≡ result Na o (act_calls N Na r o)
-    pub course_is : x.refusal ≡ 0 → outline_of x.course ≡ from Na o (act_calls N Na r o)
-    pub asks : Asks o r x.span
+  abbrev pub Acts : Result Course Refusal → Type 0
+  Acts = Comes (result Na o (act_calls N Na r o)) (from Na o (act_calls N Na r o))
 
   -- of the whole record: its L and d are those after its own wait
-  pub record Follows : Type 0 where
-    pub number : x.refusal ≡ result Na o (record_calls N Na r o)
-    pub course_is : x.refusal ≡ 0 → outline_of x.course ≡ from Na o (record_calls N Na r o)
+  pub record Follows (x : Effect) : Type 0 where
+    pub comes : Comes (result Na o (record_calls N Na r o)) (from Na o (record_calls N Na r o)) x.course
     pub asks : Asks (passed (value r 0) o) r x.span
+
+-- how a run ends: its number and its place
+pub record RunEnd : Type 0 where
+  pub refusal : ℕ
+  pub place : ℕ
+
+-- one that is not refused has the place behind its last record
+abbrev pub ended : Result ℕ Stopped → RunEnd
+ended (Ok n) = record { refusal = 0; place = n }
+ended (Err s) = record { refusal = number_of s.refusal; place = s.place }
 
 -- e is the end of the outcome x
 pub record EndsAs (x : Outcome) (e : RunEnd) : Type 0 where

@@ -2,22 +2,25 @@
 // time does not grow with the waits. Contracts cite specs/Outline.antt.
 #![tactic(auto)]
 
-ghost use Rattle.std.specs.Prelude.{◌≡◌, ℕ};
-ghost use Rattle.refusal.specs.Limits.{refusal as Refusal};
-ghost use Rattle.rule.specs.Voice.{tuning as Tuning};
+ghost use Rattle.std.specs.Prelude.{◌≡◌, ℕ, Ok, Err, MatchResult};
+ghost use Rattle.refusal.specs.Limits.{refusal as First};
+ghost use Rattle.refusal.specs.Numbers.{code_of};
+ghost use Rattle.rule.specs.Voice.{tuning as RuleTuning};
 ghost use Rattle.outline.specs.Outline.{Outline, passed as Passed, waits as Waits, change_tests};
 ghost use Rattle.outline.specs.Outline.{result as outcome, loss_calls, pluck_calls};
 ghost use Rattle.outline.specs.Struct.{ahead_of, outline_of, Order, Asks, after_change, Changes, Acts};
-ghost use Rattle.outline.specs.Struct.{Follows, PlaysAll};
+ghost use Rattle.outline.specs.Struct.{Follows, ended, PlaysAll};
 
 use follow::changes::chosen;
+use follow::unread;
 use record::{
     AMPLITUDE, COUNT, DELAY, HAS_AMPLITUDE, HAS_COUNT, HAS_DELAY, HAS_LENGTH, HAS_LOSS, INSTANT,
-    LENGTH, LOSS, MAP, NUMBER, WAIT, bit, read_record,
+    LENGTH, LOSS, MAP, WAIT, bit, read_record,
 };
-use refusal::tested;
+use refusal::{LONGEST_PLUCK, LOUDEST_PLUCK, MOST_LOSS, Refusal, within};
+use voice::{Tuning, untuned};
 
-// What a change sets.
+// What a change sets. Not a Tuning: a score keeps its order, which goes beside the course.
 #[derive(Clone, Copy)]
 pub struct Span {
     pub length: u32,
@@ -32,18 +35,17 @@ pub struct Course {
     pub left: u32,
 }
 
-// What a record comes to on a course: its number, the L and d of its change, and the course after it.
+// What a record comes to on a course: the L and d of its change, refused too, and the course after it.
 #[derive(Clone, Copy)]
 pub struct Effect {
-    pub refusal: u32,
     pub span: Span,
-    pub course: Course,
+    pub course: Result<Course, Refusal>,
 }
 
-// How a run ends: its number and its place.
+// A run that is refused, at the place of a record.
 #[derive(Clone, Copy)]
-pub struct RunEnd {
-    pub refusal: u32,
+pub struct Stopped {
+    pub refusal: Refusal,
     pub place: usize,
 }
 
@@ -63,41 +65,33 @@ pub fn after_samples(c: Course, n: u32) -> Course
             left: 0,
         };
     }
-    let span = c.span;
     Course {
-        span: span,
-        next: next,
         left: left - n,
+        ..c
     }
 }
 
 // What the loss of a record is refused by: 4.
-fn loss_number(r: &[u32; 9]) -> u32
-    ensures { (Na : ℕ) (o : Outline) → result ≡ outcome Na o (loss_calls r.now o) }
+fn loss_refused(r: &[u32; 9]) -> Result<(), Refusal>
+    ensures { (Na : ℕ) (o : Outline) → code_of result ≡ outcome Na o (loss_calls r.now o) }
 {
     if bit(r[MAP], HAS_LOSS) == 0 {
-        return 0;
+        return Ok(());
     }
-    tested(0, refusal::LOSS, r[LOSS], 0, refusal::MOST_LOSS)
+    within(Refusal::Loss, r[LOSS], 0, MOST_LOSS)
 }
 
 // What its pluck is refused by: 7, 8.
-fn pluck_number(r: &[u32; 9]) -> u32
-    ensures { (Na : ℕ) (o : Outline) → result ≡ outcome Na o (pluck_calls r.now o) }
+fn pluck_refused(r: &[u32; 9]) -> Result<(), Refusal>
+    ensures { (Na : ℕ) (o : Outline) → code_of result ≡ outcome Na o (pluck_calls r.now o) }
 {
     let map = r[MAP];
     if bit(map, HAS_AMPLITUDE) == 0 {
-        return 0;
+        return Ok(());
     }
-    let n = tested(
-        0,
-        refusal::AMPLITUDE,
-        r[AMPLITUDE],
-        0,
-        refusal::LOUDEST_PLUCK,
-    );
+    within(Refusal::Amplitude, r[AMPLITUDE], 0, LOUDEST_PLUCK)?;
     let count = chosen(bit(map, HAS_COUNT), r[COUNT], 100);
-    tested(n, refusal::COUNT, count, 1, refusal::LONGEST_PLUCK)
+    within(Refusal::Count, count, 1, LONGEST_PLUCK)
 }
 
 // The L and d to which a record changes: an absent one is that in force.
@@ -119,20 +113,15 @@ fn waits(left: u32) -> u32
 }
 
 // What a change to L and d is refused by: 1, 2, 3, 6.
-fn change_number(order: u32, c: Course, to: Span) -> u32
-    requires { Order order }
-    ensures { result ≡ Refusal (change_tests (outline_of c) (Tuning order to.length to.delay)) }
+fn change_refused(order: u32, c: Course, to: Span) -> Result<(), Refusal>
+    ensures { code_of result ≡ First (change_tests (outline_of c) (RuleTuning order to.length to.delay)) }
 {
-    let n = tested(0, refusal::ORDER, order, 1, refusal::ORDERS);
-    let m = tested(n, refusal::LENGTH, to.length, 1, refusal::LONGEST);
-    let k = tested(
-        m,
-        refusal::DELAY,
-        to.delay,
-        4096 * order - 2047,
-        4096 * order + 2048,
-    );
-    tested(k, refusal::CHANGE_WAITS, waits(c.left), 0, 0)
+    untuned(Tuning {
+        order,
+        length: to.length,
+        delay: to.delay,
+    })?;
+    within(Refusal::ChangeWaits, waits(c.left), 0, 0)
 }
 
 // The course after a change to L and d that is accepted.
@@ -153,108 +142,70 @@ fn after_change(advance: u32, c: Course, to: Span, instant: u32) -> Course
             left: 0,
         };
     }
-    let span = c.span;
     Course {
-        span: span,
         next: to,
         left: advance,
+        ..c
     }
 }
 
 // The change of a record after its wait.
-fn change(order: u32, advance: u32, c: Course, r: &[u32; 9]) -> Effect
-    requires { Order order }
+fn change(order: u32, advance: u32, c: Course, r: &[u32; 9]) -> Result<Course, Refusal>
     ensures { Changes order advance (outline_of c) r.now result }
 {
     let map = r[MAP];
-    let to = change_target(c, r);
     if bit(map, HAS_LENGTH) + bit(map, HAS_DELAY) == 0 {
-        return Effect {
-            refusal: 0,
-            span: to,
-            course: c,
-        };
+        return Ok(c);
     }
-    let n = change_number(order, c, to);
-    if n != 0 {
-        return Effect {
-            refusal: n,
-            span: to,
-            course: c,
-        };
-    }
-    let next = after_change(advance, c, to, bit(map, INSTANT));
-    Effect {
-        refusal: 0,
-        span: to,
-        course: next,
-    }
+    let to = change_target(c, r);
+    change_refused(order, c, to)?;
+    Ok(after_change(advance, c, to, bit(map, INSTANT)))
 }
 
 // What a record sets after its wait.
-fn act(order: u32, advance: u32, c: Course, r: &[u32; 9]) -> Effect
-    requires { Order order }
+fn act(order: u32, advance: u32, c: Course, r: &[u32; 9]) -> Result<Course, Refusal>
     ensures { Acts order advance (outline_of c) r.now result }
 {
-    let a = change(order, advance, c, r);
-    let span = a.span;
-    let next = a.course;
-    let n = loss_number(r);
-    if n != 0 {
-        return Effect {
-            refusal: n,
-            span: span,
-            course: next,
-        };
-    }
-    if a.refusal != 0 {
-        return a;
-    }
-    Effect {
-        refusal: pluck_number(r),
-        span: span,
-        course: next,
-    }
+    loss_refused(r)?;
+    let next = change(order, advance, c, r)?;
+    pluck_refused(r)?;
+    Ok(next)
 }
 
 // A record: its wait, and what it sets.
 pub fn follow(order: u32, advance: u32, c: Course, r: &[u32; 9]) -> Effect
-    requires { Order order }
     ensures { Follows order advance (outline_of c) r.now result }
 {
-    act(order, advance, after_samples(c, r[WAIT]), r)
+    let waited = after_samples(c, r[WAIT]);
+    Effect {
+        span: change_target(waited, r),
+        course: act(order, advance, waited, r),
+    }
 }
 
-// The records of a score on a course, given output enough.
-pub fn play(order: u32, advance: u32, start: Course, records: &[u8]) -> RunEnd
-    requires { Order order }
-    ensures { PlaysAll order advance (outline_of start) records.now result }
+// An answer to the record at a place.
+fn at<T>(place: usize, answer: Result<T, Refusal>) -> Result<T, Stopped>
+    ensures { MatchResult answer (λ x. result ≡ Ok x)
+        (λ r. result ≡ Err (record { refusal = r; place = place })) }
+{
+    answer.map_err(|refusal| Stopped { refusal, place })
+}
+
+// The records of a score on a course, given output enough; returns how many they are.
+pub fn play(order: u32, advance: u32, start: Course, records: &[u8]) -> Result<usize, Stopped>
+    ensures { PlaysAll order advance (outline_of start) records.now (ended result) }
 {
     let mut c = start;
     let mut t = records;
-    let mut index = 0;
+    let mut place = 0;
     let mut r = [0u32; 9];
-    while 0 < t.len() {
+    // Not a `for`: a record's length is known once it is read.
+    while !t.is_empty() {
         let rest = read_record(t, &mut r);
-        if r[NUMBER] != 0 {
-            return RunEnd {
-                refusal: r[NUMBER],
-                place: index,
-            };
-        }
-        let a = follow(order, advance, c, &r);
-        if a.refusal != 0 {
-            return RunEnd {
-                refusal: a.refusal,
-                place: index,
-            };
-        }
-        c = a.course;
+        at(place, unread(&r))?;
+        c = at(place, follow(order, advance, c, &r).course)?;
         t = rest;
-        index = index + 1;
+        place += 1;
     }
-    RunEnd {
-        refusal: 0,
-        place: index,
-    }
+    Ok(place)
 }

@@ -3,3 +3,4 @@ pub mod Played
 pub mod Listed
 pub mod Reached
 pub mod Ends
+pub mod Opened

@@ -2,19 +2,25 @@
 // A record's number is known before any of its samples is written.
 #![tactic(auto)]
 
-ghost use Rattle.std.specs.Prelude.{◌≡◌, get_or};
+ghost use Rattle.std.specs.Prelude.{◌≡◌, List, ℕ};
+ghost use Rattle.refusal.specs.Limits.{refusal as First};
+ghost use Rattle.refusal.specs.Numbers.{code_of};
 ghost use Rattle.voice.specs.Struct.{state_of};
 ghost use Rattle.voice.specs.Valid.{Valid};
-ghost use Rattle.refusal.specs.Returned.{Tests};
-ghost use Rattle.score.specs.Run.{fits};
+ghost use Rattle.record.specs.Record.{fields};
+ghost use Rattle.score.specs.Run.{play_limits};
+ghost use Rattle.score.specs.Opened.{Reads};
 ghost use Rattle.score.specs.Played.{PlaysAll, Runs};
 
 use follow::changes::started;
 use loops::carried::after;
-use record::{NUMBER, WAIT, read_record, word};
-use voice::{Head, Kind, settle};
+use open::Opening;
+use record::{WAIT, read_record, word};
+use refusal::{Refusal, code};
+use voice::{Head, Kind, Tuning, settle};
 
 // What a run returns: its number, its place, and how many samples it wrote.
+// A number and not a Result: C gets this struct by value.
 #[derive(Clone, Copy)]
 pub struct Played {
     pub refusal: u32,
@@ -22,113 +28,112 @@ pub struct Played {
     pub written: usize,
 }
 
-// A wait, as a number of samples in a slice.
-fn as_length(wait: u32) -> usize
-    ensures { result ≡ wait }
-{
-    wait as usize
+// How far a run has come, refused or not: the records that it followed, and the samples that it wrote.
+#[derive(Clone, Copy)]
+struct Progress {
+    place: usize,
+    written: usize,
 }
 
-// What a record is refused by before any of its samples, with so much room: its own number, then 16, else 0.
-fn refused(r: &[u32; 9], room: usize) -> u32
-    ensures { Tests (get_or r.now 0 0) (fits r.now room) result }
+// What a record is refused by before any of its samples, with so much room: 14, 15, 16.
+fn refused(r: &[u32; 9], room: usize) -> Result<(), Refusal>
+    ensures { (s : List ℕ) → r.now ≡ fields s → code_of result ≡ First (play_limits s room) }
 {
-    let code = r[NUMBER];
-    if code != 0 {
-        return code;
+    follow::unread(r)?;
+    if room < r[WAIT] as usize {
+        return Err(Refusal::OutputFull);
     }
-    if room < as_length(r[WAIT]) {
-        return refusal::OUTPUT_FULL;
-    }
-    0
+    Ok(())
 }
 
 // The records of a score, each on the voice that the one before it left.
-fn play(line: &mut [i32; 2112], mut head: Head, records: &[u8], output: &mut [i32]) -> Played
-    requires { Valid head line.old }
-    ensures { PlaysAll records.now (state_of head line.old)
-        output.old result output.new }
+fn play(
+    line: &mut [i32; 2112],
+    mut head: Head,
+    records: &[u8],
+    output: &mut [i32],
+    progress: &mut Progress,
+) -> Result<(), Refusal>
+    requires { Valid head line.old × (progress.old.place ≡ 0) × (progress.old.written ≡ 0) }
+    ensures { PlaysAll records.now (state_of head line.old) output.old (record {
+      refusal = code_of result;
+      place = progress.new.place;
+      written = progress.new.written;
+    }) output.new }
 {
     let mut t = records;
-    let mut index = 0;
-    let mut done = 0;
     let mut r = [0u32; 9];
-    while 0 < t.len() {
+    // Not a `for`: a record's length is known once it is read.
+    while !t.is_empty() {
         let rest = read_record(t, &mut r);
-        let code = refused(&r, output.len() - done);
-        if code != 0 {
-            return Played {
-                refusal: code,
-                place: index,
-                written: done,
-            };
-        }
-        let wait = as_length(r[WAIT]);
-        let e = done + wait;
-        let p = render::begin(line, head, &mut output[done..e]);
+        let start = progress.written;
+        refused(&r, output.len() - start)?;
+        let wait = r[WAIT] as usize;
+        let end = start + wait;
+        let p = render::begin(line, head, &mut output[start..end]);
         let n = p.ran.done;
         head = after(head, p);
         if n != wait {
-            head = render::rest(line, head, n, &mut output[done..e]);
+            head = render::rest(line, head, n, &mut output[start..end]);
         }
-        done = e;
+        progress.written = end;
         if follow::announces(&r) {
-            let q = started(head, &r);
-            if q.refusal != 0 {
-                return Played {
-                    refusal: q.refusal,
-                    place: index,
-                    written: done,
-                };
-            }
-            let f = q.filter;
+            let f = started(head, &r)?;
             head = settle(head, Kind::Announced, f, 0);
         } else if follow::sets(&r) {
-            let a = follow::act(line, head, &r);
-            if a.refusal != 0 {
-                return Played {
-                    refusal: a.refusal,
-                    place: index,
-                    written: done,
-                };
-            }
-            head = a.head;
+            follow::act(line, &mut head, &r)?;
         }
         t = rest;
-        index = index + 1;
+        progress.place += 1;
     }
-    Played {
-        refusal: 0,
-        place: index,
-        written: done,
+    Ok(())
+}
+
+// What the header of a score opens its voice with: order and advance, a byte each, then L, d and G.
+pub fn opening(score: &[u8]) -> Result<Opening, Refusal>
+    ensures { Reads score.now result }
+{
+    if score.len() < 8 {
+        return Err(Refusal::CutShort);
     }
+    Ok(Opening {
+        tuning: Tuning {
+            order: u32::from(score[0]),
+            length: word(score, 2),
+            delay: word(score, 4),
+        },
+        loss: word(score, 6),
+        advance: u32::from(score[1]),
+    })
+}
+
+// The header and the records.
+fn follow_all(score: &[u8], output: &mut [i32], progress: &mut Progress) -> Result<(), Refusal>
+    requires { (progress.old.place ≡ 0) × (progress.old.written ≡ 0) }
+    ensures { Runs score.now output.old (record {
+      refusal = code_of result;
+      place = progress.new.place;
+      written = progress.new.written;
+    }) output.new }
+{
+    let o = open::open(opening(score)?);
+    o.answer?;
+    let mut line = o.voice.line;
+    play(&mut line, o.voice.head, &score[8..], output, progress)
 }
 
 // The run of a score, over an output that it is lent.
 pub fn run(score: &[u8], output: &mut [i32]) -> Played
     ensures { Runs score.now output.old result output.new }
 {
-    if score.len() < 8 {
-        return Played {
-            refusal: refusal::CUT_SHORT,
-            place: 0,
-            written: 0,
-        };
+    let mut progress = Progress {
+        place: 0,
+        written: 0,
+    };
+    let answer = follow_all(score, output, &mut progress);
+    Played {
+        refusal: code(answer),
+        place: progress.place,
+        written: progress.written,
     }
-    let a = open::open(
-        score[0] as u32,
-        word(score, 2),
-        word(score, 4),
-        word(score, 6),
-        score[1] as u32,
-    );
-    if a.refusal != 0 {
-        return Played {
-            refusal: a.refusal,
-            place: 0,
-            written: 0,
-        };
-    }
-    let mut line = a.voice.line;
-    play(&mut line, a.voice.head, &score[8..], output)
 }

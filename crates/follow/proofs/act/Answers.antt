@@ -1,6 +1,8 @@
 -- `follow::act` meets its contract: the parts of the record, or the one call of an instant change alone.
 -- Assumes nothing.
-use mathlib.Core.Path.{sym, ap₂, subst, ◌∙◌}
+use Rattle.std.proofs.Common.{rules}
+use Rattle.std.specs.Prelude.{Err}
+use mathlib.Core.Path.{◌≡◌, sym, ap₂, subst, ◌∙◌}
 use mathlib.Core.List.{List}
 use Prim.Native.Nat.{ℕ, ◌+◌}
 use Rattle.rule.specs.Calls.{Call}
@@ -16,10 +18,10 @@ use Rattle.follow.proofs.act.Reads as reads
 use Rattle.follow.proofs.act.Tie as tie
 
 -- a change alone, once its manner is known
-module _ (c : (lts.After-bit5 tie.the-claims reads.Pre reads.Post)) where
+module _ (c : (lts.After-bit5 tie.the-claims reads.Pre reads.Post tie.handed_clauses)) where
   made : {a : Answer} → let s = c.args in
-      On s.head s.line.now (change s.r.now (state_of s.head s.line.now)) a s.line.now
-      → Does s.head s.line.now (act_calls s.r.now (state_of s.head s.line.now)) a
+      On s.head.now s.line.now (change s.r.now (state_of s.head.now s.line.now)) a s.line.now
+      → Does s.head.now s.line.now (act_calls s.r.now (state_of s.head.now s.line.now)) a
       s.line.now
   made {a} o =
       let s = c.args in
@@ -27,14 +29,22 @@ module _ (c : (lts.After-bit5 tie.the-claims reads.Pre reads.Post)) where
       let p = c.bit-4 in
       let no = none_both g.result p.result c.if-bit-ne0.false in
       let added = ap₂ (λ (x y : ℕ). x + y) c.bit.ensures c.bit-2.ensures in
-      subst (λ (cs : List Call). Does s.head s.line.now cs a s.line.now)
-      (change-alone s.r.now (state_of s.head s.line.now) (sym g.ensures ∙ no.0)
+      subst (λ (cs : List Call). Does s.head.now s.line.now cs a s.line.now)
+      (change-alone s.r.now (state_of s.head.now s.line.now) (sym g.ensures ∙ no.0)
       (λ z. c.if-bit-eq0.false (added ∙ z)) (sym p.ensures ∙ no.1))
-      (does-one s.head s.line.now o)
+      (does-one s.head.now s.line.now o)
+
+pub returns-in_err-head : goal.returns-in_err-head
+returns-in_err-head c =
+    let s = c.args in
+    let l = s.line.now in
+    let i : c.from_residual.result ≡ Err c.in_err-head.field-0.0 = search rules in
+    rw i (made c.before.before.before.before.before.before.before (on_as c.in_err-head.ensures
+    (at_once s.r.now (state_of s.head.now l) (λ z. c.if-bit-eq0-2.false (c.bit-5.ensures ∙ z)))))
 
 pub returns : goal.returns
 returns c =
     let s = c.args in
-    made c.before.before.before (on_as c.at_once.ensures
-    (at_once s.r.now (state_of s.head s.line.now)
+    made c.before.before.before.before.before.before (on_as c.in_ok-head.ensures
+    (at_once s.r.now (state_of s.head.now s.line.now)
     (λ z. c.if-bit-eq0-2.false (c.bit-5.ensures ∙ z))))

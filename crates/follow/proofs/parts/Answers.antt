@@ -1,42 +1,53 @@
 -- `follow::parts` meets its contract: three parts, one after the other.
 -- Assumes nothing.
+use Rattle.std.proofs.Common.{rules}
+use Rattle.std.specs.Prelude.{Err}
+use mathlib.Core.Path.{◌≡◌, refl}
+use Rattle.refusal.proofs.Numbers.{refused-above}
 use Rattle.follow.specs.Follow.{loss_calls, change_calls, pluck_calls, then, act_calls}
 use Rattle.follow.proofs.Following.{does-stops, does-then}
 use Rattle.follow.proofs.parts.Goals as goal
 
-pub returns-then-g-ne0 : goal.returns-then-g-ne0
+pub returns-in_err-head : goal.returns-in_err-head
 unfolding act_calls
-returns-then-g-ne0 c =
-    let s = c.args in
-    let r = s.r.now in
-    does-stops (loss_calls r) (then (change_calls r) (pluck_calls r)) s.head s.line.now
-    c.set_loss-g.result s.line.now
-    (c.set_loss-g.ensures s.line.now c.requires) c.if-g-ne0.true
+returns-in_err-head c =
+    let l = c.args.line.now in
+    let h = c.args.head.now in
+    let r = c.args.r.now in
+    let n = c.in_err-head.field-0.0 in
+    let i : c.from_residual.result ≡ Err n = search rules in
+    rw i (does-stops (loss_calls r) (then (change_calls r) (pluck_calls r)) h l _ l
+    (c.in_err-head.ensures l c.requires) (refused-above n))
 
-pub change-c-requires : goal.change-c-requires
-change-c-requires c = (c.set_loss-g.ensures c.args.line.now c.requires).valid
-
-pub returns-then-c-ne0 : goal.returns-then-c-ne0
+pub returns-in_err-head-2 : goal.returns-in_err-head-2
 unfolding act_calls
-returns-then-c-ne0 c =
-    let s = c.args in
-    let r = s.r.now in
-    does-then (loss_calls r) (then (change_calls r) (pluck_calls r)) s.head s.line.now
-    c.set_loss-g.result s.line.now
-    (c.set_loss-g.ensures s.line.now c.requires) c.if-g-ne0.false c.change-c.result s.line.now
-    (does-stops (change_calls r) (pluck_calls r) c.set_loss-g.result.head s.line.now
-    c.change-c.result s.line.now
-    c.change-c.ensures c.if-c-ne0.true)
+returns-in_err-head-2 c =
+    let l = c.args.line.now in
+    let r = c.args.r.now in
+    let n = c.in_err-head-2.field-0.0 in
+    let i : c.from_residual-in_err-head-2.result ≡ Err n = search rules in
+    rw i (does-then (loss_calls r) (then (change_calls r) (pluck_calls r)) c.args.head.now l _ l
+    (c.in_ok-head.ensures l c.requires) refl _ l
+    (does-stops (change_calls r) (pluck_calls r) c.in_ok-head.field-0 l _ l c.in_err-head-2.ensures (refused-above n)))
+
+pub returns-in_err-head-3 : goal.returns-in_err-head-3
+unfolding act_calls
+returns-in_err-head-3 c =
+    let l = c.args.line.now in
+    let r = c.args.r.now in
+    let n = c.in_err-head-3.field-0.0 in
+    let i : c.from_residual-in_err-head-3.result ≡ Err n = search rules in
+    rw i (does-then (loss_calls r) (then (change_calls r) (pluck_calls r)) c.args.head.now l _ l
+    (c.in_ok-head.ensures l c.requires) refl _ l
+    (does-then (change_calls r) (pluck_calls r) c.in_ok-head.field-0 l _ l c.in_ok-head-2.ensures refl _ l
+    (c.in_err-head-3.ensures l c.in_ok-head-2.ensures.valid)))
 
 pub returns : goal.returns
 unfolding act_calls
 returns c =
-    let s = c.args in
-    let r = s.r.now in
-    let l = s.line.now in
-    does-then (loss_calls r) (then (change_calls r) (pluck_calls r)) s.head l c.set_loss-g.result l
-    (c.set_loss-g.ensures s.line.now c.requires) c.if-g-ne0.false
-    c.pluck.result l
-    (does-then (change_calls r) (pluck_calls r) c.set_loss-g.result.head l c.change-c.result l
-    c.change-c.ensures
-    c.if-c-ne0.false c.pluck.result l (c.pluck.ensures l c.change-c.ensures.valid))
+    let l = c.args.line.now in
+    let r = c.args.r.now in
+    does-then (loss_calls r) (then (change_calls r) (pluck_calls r)) c.args.head.now l _ l
+    (c.in_ok-head.ensures l c.requires) refl _ l
+    (does-then (change_calls r) (pluck_calls r) c.in_ok-head.field-0 l _ l c.in_ok-head-2.ensures refl _ l
+    (c.in_ok-head-3.ensures l c.in_ok-head-2.ensures.valid))

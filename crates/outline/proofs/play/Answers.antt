@@ -1,13 +1,21 @@
 -- `outline::play` meets its contract: each turn reads a record and follows it.
-use mathlib.Core.Path.{◌≡◌, sym, subst, ◌∙◌}
+use Rattle.std.proofs.Common.{rules}
+use Rattle.std.specs.Prelude.{Result, Ok, Err, MatchResult}
+use mathlib.Core.Path.{◌≡◌, refl, sym, ap, subst, ◌∙◌}
 use mathlib.Core.List.{List}
 use Prim.Native.Nat.{ℕ, ◌+◌, ◌<◌}
 use native.Mathlib.Omega.{arith}
-use lib.ListN.{length, get_or}
+use borrow.Author.Tests.{eqb-true, eqb-false}
+use lib.ListN.{length}
+use Rattle.refusal.specs.declared.Refusal.{Refusal}
+use Rattle.refusal.specs.Numbers.{number_of, code_of}
+use Rattle.refusal.proofs.Numbers.{refused-above}
 use Rattle.record.specs.Record.{record_number, fields}
-use Rattle.outline.specs.Outline.{Outline}
-use Rattle.outline.specs.Struct.{outline_of, Follows}
-use Rattle.outline.proofs.Playing.{Playing, begun, all-played, refused, stopped, goes_on, shorter, read_number}
+use Rattle.outline.specs.declared.Course.{Course}
+use Rattle.outline.specs.declared.Stopped.{Stopped}
+use Rattle.outline.specs.Outline.{Outline, result, from, record_calls}
+use Rattle.outline.specs.Struct.{outline_of, Comes, Follows}
+use Rattle.outline.proofs.Playing.{Playing, begun, all-played, refused, stopped, goes_on, shorter}
 use Rattle.outline.proofs.play.Goals as goal
 use Rattle.outline.proofs.play.Lts as lts
 use Rattle.outline.proofs.play.Reads as reads
@@ -15,13 +23,29 @@ use Rattle.outline.proofs.play.Tie as tie
 
 abbrev Read : Type 0
 Read =
-    lts.After-read_record tie.the-claims reads.Pre reads.Post goal.the-invariant-loop-t goal.the-decreases-loop-t
+    lts.After-unread tie.the-claims reads.Pre reads.Post goal.the-invariant-loop-t goal.the-decreases-loop-t
     tie.handed_clauses
 
 abbrev Followed : Type 0
 Followed =
     lts.After-follow tie.the-claims reads.Pre reads.Post goal.the-invariant-loop-t goal.the-decreases-loop-t
     tie.handed_clauses
+
+-- ---- an answer at a place
+module _ {A : Type 0} (k : ℕ) where
+  refused-at : (x : Result A Refusal) {s : Stopped}
+      → MatchResult x (λ y. ◌≡◌ {A = Result A Stopped} (Err s) (Ok y))
+      (λ r. ◌≡◌ {A = Result A Stopped} (Err s) (Err (record { refusal = r; place = k })))
+      → (x ≡ Err s.refusal) × (s.place ≡ k)
+  refused-at (Ok y) e = search rules
+  refused-at (Err r) e = search rules
+
+  passed-at : (x : Result A Refusal) {y : A}
+      → MatchResult x (λ z. ◌≡◌ {A = Result A Stopped} (Ok y) (Ok z))
+      (λ r. ◌≡◌ {A = Result A Stopped} (Ok y) (Err (record { refusal = r; place = k })))
+      → x ≡ Ok y
+  passed-at (Ok z) e = search rules
+  passed-at (Err r) e = search rules
 
 -- ---- once a record is read
 module _ (c : Read) where
@@ -44,52 +68,61 @@ module _ (c : Read) where
   left = c.loop-t.t.now
 
   abbrev index : ℕ
-  index = c.loop-t.index
+  index = c.loop-t.place
 
   playing : Playing N Na bytes start now left index
   playing = c.loop-t.invariant
 
   some : 0 < length left
-  some = c.loop-t-test.true
+  some = omega (arith, eqb-false (length left) 0 (sym c.is_empty.ensures ∙ c.loop-t-test.true))
 
   read : c.read_record-rest.new.fields ≡ fields left
   read = c.read_record-rest.ensures.fields_after
 
-  number_is : get_or c.read_record-rest.new.fields 0 0 ≡ record_number left
-  number_is = read_number left read
+  number_is : code_of c.unread.result ≡ record_number left
+  number_is = c.unread.ensures left read
 
 -- ---- once it is followed
 module _ (c : Followed) where
   abbrev place : Read
-  place = c.before.before.before
+  place = c.before.before.before.before.before
 
   whole : record_number (left place) ≡ 0
-  whole = sym (number_is place) ∙ c.if-r-ne0.false
+  whole = sym (number_is place) ∙ ap (λ (x : Result _ Refusal). code_of x) (passed-at (index place) place.unread.result c.in_ok-at.ensures)
 
-  follows : Follows (N place) (Na place) (now place) (fields (left place)) c.follow-a.result
+  follows : Follows (N place) (Na place) (now place) (fields (left place)) c.follow.result
   follows =
-      subst (λ (l : List ℕ). Follows (N place) (Na place) (now place) l c.follow-a.result) (read place)
-      c.follow-a.ensures
+      subst (λ (l : List ℕ). Follows (N place) (Na place) (now place) l c.follow.result) (read place)
+      c.follow.ensures
 
-pub loop-t-init : goal.loop-t-init
-loop-t-init c = begun c.args.order c.args.advance c.args.records.now (outline_of c.args.start)
+  -- by what its course is
+  comes : (x : Result Course Refusal) → c.follow.result.course ≡ x
+      → Comes (result (Na place) (now place) (record_calls (N place) (Na place) (fields (left place)) (now place)))
+      (from (Na place) (now place) (record_calls (N place) (Na place) (fields (left place)) (now place))) x
+  comes x e =
+      let cs = record_calls (N place) (Na place) (fields (left place)) (now place) in
+      subst (λ (y : Result Course Refusal). Comes (result (Na place) (now place) cs) (from (Na place) (now place) cs) y) e
+      follows.comes
 
-pub returns-then-r-ne0 : goal.returns-then-r-ne0
-returns-then-r-ne0 c =
-    let r = c.before.before in
-    refused (N r) (Na r) (bytes r) (start r) (now r) (left r) (index r) (playing r) (some r) (number_is r) c.if-r-ne0.true
+pub returns-in_err-at : goal.returns-in_err-at
+returns-in_err-at c =
+    let r = c.before.before.before.before.before in
+    let k = c.in_err-at.field-0.0 in
+    let i : c.from_residual.result ≡ Err k = search rules in
+    let e = refused-at (index r) r.unread.result c.in_err-at.ensures in
+    let n = ap (λ (x : Result _ Refusal). code_of x) (sym e.0) ∙ number_is r in
+    rw (i, e.1) (refused (N r) (Na r) (bytes r) (start r) (now r) (left r) (index r) (playing r) (some r) n
+    (refused-above k.refusal))
 
-pub returns-then-a-ne0 : goal.returns-then-a-ne0
-returns-then-a-ne0 c =
-    let f = c.before.before.before in
+pub returns-in_err-c : goal.returns-in_err-c
+returns-in_err-c c =
+    let f = c.before.before.before.before.before in
     let r = place f in
-    stopped (N r) (Na r) (bytes r) (start r) (now r) (left r) (index r) (playing r) (some r) (whole f)
-    (follows f).number c.if-a-ne0.true
-
-pub overflow_add-index : goal.overflow_add-index
-overflow_add-index c =
-    let r = place c.before.before.before.before in
-    omega (arith, some r, (playing r).few)
+    let k = c.in_err-c.field-0.0 in
+    let i : c.from_residual-in_err-c.result ≡ Err k = search rules in
+    let e = refused-at (index r) f.follow.result.course c.in_err-c.ensures in
+    rw (i, e.1) (stopped (N r) (Na r) (bytes r) (start r) (now r) (left r) (index r) (playing r) (some r) (whole f)
+    (comes f (Err k.refusal) e.0) (refused-above k.refusal))
 
 pub loop-t-smaller : goal.loop-t-smaller
 loop-t-smaller c =
@@ -102,16 +135,15 @@ pub loop-t-preserved : goal.loop-t-preserved
 loop-t-preserved c =
     let f = c.before.before.before.before in
     let r = place f in
-    let h = follows f in
-    let z = c.if-a-ne0.false in
-    subst (λ (l : List ℕ). Playing (N r) (Na r) (bytes r) (start r) (outline_of f.follow-a.result.course) l (index r + 1))
+    let h = comes f (Ok c.in_ok-c.c) (passed-at (index r) f.follow.result.course c.in_ok-c.ensures) in
+    subst (λ (l : List ℕ). Playing (N r) (Na r) (bytes r) (start r) (outline_of c.in_ok-c.c) l (index r + 1))
     (sym r.read_record-rest.ensures.result_value)
     (goes_on (N r) (Na r) (bytes r) (start r) (now r) (left r) (index r) (playing r) (some r) (whole f)
-    (sym h.number ∙ z) (h.course_is z))
+    (sym h.0) h.1)
 
 pub returns : goal.returns
 returns c =
     let l = c.loop-t in
     let s = c.args in
     all-played s.order s.advance s.records.now (outline_of s.start) (outline_of l.c) l.t.now
-    l.index l.invariant c.loop-t-test.false
+    l.place l.invariant (omega (arith, eqb-true (length l.t.now) 0 (sym c.is_empty.ensures ∙ c.loop-t-test.false)))

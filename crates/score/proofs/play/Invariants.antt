@@ -8,8 +8,8 @@ use Rattle.score.proofs.play.Given as goal
 
 abbrev pub invariant-loop-t : goal.invariant-loop-t
 invariant-loop-t l =
-    Playing l.records (state_of l.initial.head l.initial.line) l.initial.output (state_of l.head l.line) l.t l.index
-    l.done l.output
+    Playing l.records (state_of l.initial.head l.initial.line) l.initial.output (state_of l.head l.line) l.t l.progress.place
+    l.progress.written l.output
     × Valid l.head l.line
     × (length l.output ≡ length l.initial.output)
 

@@ -1,29 +1,44 @@
--- `score::refused` meets its contract: the record's own number, or 16, or none.
+-- `score::refused` meets its contract: what the record was refused by, or 16, or none.
 -- Assumes nothing.
-use mathlib.Core.Path.{refl, sym, ◌∙◌}
-use mathlib.Core.List.{[], ◌∷◌}
+use Rattle.std.proofs.Common.{rules}
+use Rattle.std.specs.Prelude.{Err}
+use mathlib.Core.Path.{◌≡◌, refl, sym, ap, ◌∙◌}
+use mathlib.Core.List.{List, [], ◌∷◌, ◌++◌}
+use Prim.Native.Nat.{ℕ}
 use native.Mathlib.Omega.{arith}
+use Rattle.refusal.specs.Limits.{refusal}
+use Rattle.refusal.proofs.Numbers.{refused-above}
 use Rattle.refusal.proofs.Returned.{here, past, kept-is, is-met}
 use Rattle.refusal.proofs.Passed.{stops, passes}
+use Rattle.record.specs.Record.{record_limits, record_number, fields}
+use Rattle.follow.specs.Follow.{value}
 use Rattle.score.specs.Run.{fits}
 use Rattle.score.proofs.refused.Goals as goal
 
-pub returns-then-code-ne0 : goal.returns-then-code-ne0
-returns-then-code-ne0 c =
-    let l = fits c.args.r.now c.args.room in
-    λ ls t e. e ∙ sym (stops ls (l ∷ []) (λ z. c.if-code-ne0.true (e ∙ z)))
+pub returns-in_err-unread : goal.returns-in_err-unread
+unfolding record_number
+returns-in_err-unread c =
+    let r = c.in_err-unread.field-0.0 in
+    let i : c.from_residual.result ≡ Err r = search rules in
+    rw i (λ s e.
+    let n = c.in_err-unread.ensures s e in
+    n ∙ sym (stops (record_limits s) (fits (fields s) c.args.room ∷ []) (λ z. refused-above r (n ∙ z))))
 
-pub returns-then-room-as_length : goal.returns-then-room-as_length
-returns-then-room-as_length c =
-    let l = fits c.args.r.now c.args.room in
-    let o = is-met l (λ k. omega (arith, k.most, c.if-room-as_length.true, c.as_length.ensures)) in
-    λ ls t e. sym (passes ls (l ∷ []) t (sym e ∙ c.if-code-ne0.false) ∙ here l [] o)
+pub returns-then-room-r : goal.returns-then-room-r
+unfolding record_number
+returns-then-room-r c =
+    λ s e.
+    let l = fits (fields s) c.args.room in
+    let o = is-met l (λ k. omega (arith, k.most, c.if-room-r.true, ap (λ (xs : List ℕ). value xs 0) e)) in
+    sym (passes (record_limits s) (l ∷ []) tt (sym (c.in_ok-unread.ensures s e)) ∙ here l [] o)
 
 pub returns : goal.returns
+unfolding record_number
 returns c =
-    let l = fits c.args.r.now c.args.room in
+    λ s e.
+    let l = fits (fields s) c.args.room in
     let o = kept-is l (record {
       least = omega arith;
-      most = omega (arith, c.if-room-as_length.false, c.as_length.ensures);
+      most = omega (arith, c.if-room-r.false, ap (λ (xs : List ℕ). value xs 0) e);
     }) in
-    λ ls t e. past l [] o refl ∙ sym (passes ls (l ∷ []) t (sym e ∙ c.if-code-ne0.false))
+    past l [] o refl ∙ sym (passes (record_limits s) (l ∷ []) tt (sym (c.in_ok-unread.ensures s e)))

@@ -4,16 +4,17 @@ use mathlib.Core.Path.{◌≡◌, sym, ap, ◌∙◌}
 use mathlib.Core.List.{List, [], ◌∷◌, ◌++◌}
 use Prim.Native.Nat.{ℕ, ◌+◌, ◌-◌, ◌≤◌, ◌<◌}
 use native.Mathlib.Omega.{arith}
+use borrow.Author.Tests.{eqb-false}
 use lib.IntN.{ℤ}
-use lib.ListN.{length}
+use lib.ListN.{length, get_or}
 use Rattle.refusal.specs.Limits.{refusal}
 use Rattle.rule.specs.State.{State}
 use Rattle.voice.specs.declared.Head.{Head}
 use Rattle.voice.specs.Struct.{state_of}
-use Rattle.record.specs.Record.{record_limits, fields}
+use Rattle.record.specs.Record.{fields}
 use Rattle.follow.specs.Follow.{value}
-use Rattle.score.specs.Run.{fits, play_limits}
-use Rattle.score.proofs.Playing.{Playing, read_number, has_room}
+use Rattle.score.specs.Run.{play_limits}
+use Rattle.score.proofs.Playing.{Playing, has_room}
 use Rattle.score.proofs.play.Goals as goal
 use Rattle.score.proofs.play.Lts as lts
 use Rattle.score.proofs.play.Reads as reads
@@ -27,7 +28,7 @@ Numbered =
 
 abbrev pub Waits-read : Type 0
 Waits-read =
-    lts.After-as_length tie.the-claims reads.Pre reads.Post goal.the-invariant-loop-t goal.the-decreases-loop-t
+    lts.Past-After-known_told tie.the-claims reads.Pre reads.Post goal.the-invariant-loop-t goal.the-decreases-loop-t
     tie.handed_clauses
 
 abbrev pub Begun : Type 0
@@ -69,10 +70,10 @@ module _ (c : Numbered) where
   left = c.loop-t.t.now
 
   abbrev pub index : ℕ
-  index = c.loop-t.index
+  index = c.loop-t.progress.place
 
   abbrev pub done : ℕ
-  done = c.loop-t.done
+  done = c.loop-t.progress.written
 
   abbrev pub output : List ℤ
   output = c.loop-t.output
@@ -81,29 +82,34 @@ module _ (c : Numbered) where
   playing = c.loop-t.invariant.0
 
   pub some : 0 < length left
-  some = c.loop-t-test.true
+  some = omega (arith, eqb-false (length left) 0 (sym c.is_empty.ensures ∙ c.loop-t-test.true))
 
   pub read : c.read_record-rest.new.fields ≡ fields left
   read = c.read_record-rest.ensures.fields_after
 
-  pub number_is : c.refused-code.result ≡ refusal (play_limits left (length lent - done))
-  number_is =
-      c.refused-code.ensures (record_limits left) tt (read_number left read)
-      ∙ ap (λ (l : List ℕ). refusal (record_limits left ++ fits l (length output - done) ∷ [])) read
-      ∙ ap (λ (n : ℕ). refusal (play_limits left (n - done))) c.loop-t.invariant.2
+  -- the samples that it waits, where it is read
+  abbrev pub wait : ℕ
+  wait = get_or c.read_record-rest.new.fields 2 0
+
+  -- what it is refused by, n, as `score::refused` has it
+  pub number_is : {n : ℕ}
+      → ((s : List ℕ) → c.read_record-rest.new.fields ≡ fields s
+      → n ≡ refusal (play_limits s (length output - done)))
+      → n ≡ refusal (play_limits left (length lent - done))
+  number_is f = f left read ∙ ap (λ (n : ℕ). refusal (play_limits left (n - done))) c.loop-t.invariant.2
 
 -- ---- a record that is not refused
 module _ (c : Waits-read) where
   abbrev pub numbered : Numbered
   numbered = c.before.before
 
-  pub wait-is : c.as_length-wait.result ≡ value (fields (left numbered)) 0
-  wait-is = c.as_length-wait.ensures ∙ ap (λ (l : List ℕ). value l 0) (read numbered)
+  pub wait-is : wait numbered ≡ value (fields (left numbered)) 0
+  wait-is = ap (λ (l : List ℕ). value l 0) (read numbered)
 
   pub taken : refusal (play_limits (left numbered) (length (lent numbered) - done numbered)) ≡ 0
-  taken = sym (number_is numbered) ∙ c.if-code-ne0.false
+  taken = sym (number_is numbered c.in_ok-refused.ensures)
 
-  pub room : done numbered + c.as_length-wait.result ≤ length (output numbered)
+  pub room : done numbered + wait numbered ≤ length (output numbered)
   room =
       let r = numbered in omega (
         arith,

@@ -17,6 +17,7 @@ use Rattle.render.proofs.Unfed.{Stretched, stretched}
 use Rattle.score.proofs.Turns.{part_length}
 use Rattle.score.proofs.play.Goals.{then-n-wait, else-n-wait}
 use Rattle.score.proofs.play.Answers.Loop.{Numbered, Waits-read, Begun, Kept, Rendered, numbered, head, line, voice, done, output, room}
+use Rattle.score.proofs.play.Answers.Loop.{wait as samples-of}
 
 -- ---- the first stretch
 module _ (c : Begun) where
@@ -27,13 +28,13 @@ module _ (c : Begun) where
   place = numbered wait
 
   abbrev pub ends_at : ℕ
-  ends_at = done place + wait.as_length-wait.result
+  ends_at = done place + samples-of place
 
   -- what is lent for the wait
   abbrev pub part : List ℤ
   part = take (ends_at - done place) (drop (done place) (output place))
 
-  pub long : length part ≡ wait.as_length-wait.result
+  pub long : length part ≡ samples-of place
   long = part_length (done place) (output place) (room wait)
 
   abbrev pub first : List ℤ
