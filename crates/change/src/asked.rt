@@ -4,8 +4,8 @@ ghost use Rattle.std.specs.Prelude.{◌≡◌, [], ◌∷◌};
 ghost use Rattle.refusal.specs.Limits.{refusal as First};
 ghost use Rattle.refusal.specs.Numbers.{code_of};
 ghost use Rattle.rule.specs.Calls.{commit as Commit, withdraw as Withdraw};
-ghost use Rattle.rule.specs.Tests.{askings, asks, takings, asking, ready};
-ghost use Rattle.voice.specs.Struct.{kind_of, waiting_of};
+ghost use Rattle.rule.specs.Tests.{asks, takings, asking, ready};
+ghost use Rattle.voice.specs.Struct.{waiting_of};
 ghost use Rattle.voice.specs.Valid.{Fit};
 ghost use Rattle.voice.specs.Called.{Called, answered};
 ghost use Rattle.change.specs.Committed.{committed_of, committing_of};
@@ -13,23 +13,14 @@ ghost use Rattle.change.specs.Committed.{committed_of, committing_of};
 use refusal::{Refusal, within};
 use voice::{Head, Kind, Waiting, with};
 
-// How many a kind counts as: an announced change is nothing asked.
-fn one(kind: Kind) -> u32
-    ensures { result ≡ askings (kind_of kind) }
-{
-    match kind {
-        Kind::Announced => 0,
-        Kind::Asked => 1,
-    }
-}
-
-// How many changes that were asked for wait: none or one.
+// How many changes that were asked for wait: none or one. An announced change is nothing asked.
 fn asked(w: Waiting) -> u32
     ensures { result ≡ asks (waiting_of w) }
 {
     match w {
         Waiting::Idle => 0,
-        Waiting::Prepared(kind, _, _) => one(kind),
+        Waiting::Prepared(Kind::Announced, _, _) => 0,
+        Waiting::Prepared(Kind::Asked, _, _) => 1,
     }
 }
 
@@ -59,16 +50,6 @@ fn early(w: Waiting, advance: u32) -> Result<(), Refusal>
     within(Refusal::TooEarly, n, advance, n)
 }
 
-// The eliminator's tuning and state are in force.
-fn switched(head: Head, w: Waiting) -> Head
-    ensures { result ≡ committed_of head w }
-{
-    match w {
-        Waiting::Idle => head,
-        Waiting::Prepared(_, e, _) => with(head, e, Waiting::Idle),
-    }
-}
-
 // What a commit is refused by: 21, then 20; one that is not leaves what `committed` returns.
 pub fn uncommitted(head: Head) -> Result<(), Refusal>
     requires { Fit head }
@@ -77,11 +58,14 @@ pub fn uncommitted(head: Head) -> Result<(), Refusal>
     early(head.waiting, head.advance)
 }
 
-// What waits is in force.
+// What waits is in force: the eliminator's tuning and state.
 pub fn committed(head: Head) -> Head
     ensures { result ≡ committed_of head head.waiting }
 {
-    switched(head, head.waiting)
+    match head.waiting {
+        Waiting::Idle => head,
+        Waiting::Prepared(_, e, _) => with(head, e, Waiting::Idle),
+    }
 }
 
 // Commits the change that was asked for: it is in force before the next sample.
