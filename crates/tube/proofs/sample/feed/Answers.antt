@@ -16,9 +16,6 @@ module _ (c : In_ok-m) where
   waits : let m = c.in_ok-m.m in Early c.args.advance m.d m.taken m.filters
   waits = rw is at c.requires.1
 
-pub overflow_add-result : goal.overflow_add-result
-overflow_add-result c = omega (arith, (waits (goal.at.overflow_add-result c).In_ok-m).early, c.requires.0)
-
 pub feed_both-requires : goal.feed_both-requires
 feed_both-requires c = feeds (waits (goal.at.feed_both-requires c).In_ok-m).filters c.requires.2
 

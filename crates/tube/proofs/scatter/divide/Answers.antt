@@ -1,7 +1,6 @@
 -- `tube::scatter::divide` meets its contract: the machine divides toward zero.
 use mathlib.Core.Path.{◌≡◌, refl}
 use native.Mathlib.Omega.{arith}
-use lib.Dec.{lit<}
 use lib.IntN.{pos}
 use lib.Signed.{quot_z}
 use mir.Syntax.{w64}
@@ -22,9 +21,6 @@ q-fits c =
 
 u-read : (c : goal.After-struct_told-1) → let u = c.args.u.n in to_z w64 (of_z w64 u) ≡ u
 u-read c = read w64 c.args.u.n c.struct_told-1.given.0.1 refl
-
-pub nonzero_div-result : goal.nonzero_div-result
-nonzero_div-result c = rw (u-read c) (lit< tt, q-fits c)
 
 pub returns : goal.returns
 returns c = rw (u-read c, to_z-of_z (q-fits c)) (cut_quot c.args.u.n 32768)

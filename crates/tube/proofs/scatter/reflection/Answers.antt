@@ -10,9 +10,10 @@ use mir.ValLaws.{to_z_pos}
 use Rattle.integer.proofs.View.{abs_fits, vfit, -v}
 use Rattle.integer.proofs.Ring.{abs-*, abs--}
 use Rattle.junction.specs.Junction.{reflection}
+use Rattle.tube.proofs.scatter.reflection.Goals.{Start}
 use Rattle.tube.proofs.scatter.reflection.Goals as goal
 
-module _ (c : goal.Start) where
+module _ (c : Start) where
   abbrev l : ℕ
   l = c.args.left
 
@@ -37,16 +38,6 @@ module _ (c : goal.Start) where
 
   top-fits : SFits w64 (pos 32768 *ℤ (pos l -ℤ pos r))
   top-fits = abs_fits w64 (pos 32768 *ℤ (pos l -ℤ pos r)) (omega (arith, top_small))
-
-pub overflow_sub-difference : goal.overflow_sub-difference
-overflow_sub-difference c = rw (left_is c, right_is c) (difference-fits c)
-
-pub overflow_mul-difference : goal.overflow_mul-difference
-overflow_mul-difference c = rw (difference-is c) (top-fits c)
-
-pub round_half_up-requires : goal.round_half_up-requires
-round_half_up-requires c =
-    rw (difference-is c, to_z-of_z (top-fits c)) (omega (arith, c.requires.0.least), omega (arith, top_small c, c.requires.0.most, c.requires.1.most))
 
 pub returns : goal.returns
 unfolding reflection

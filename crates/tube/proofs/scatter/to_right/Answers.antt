@@ -4,11 +4,6 @@ use lib.IntN.{pos, ◌+ℤ◌}
 use Rattle.tube.proofs.Sums.{plus-r, product_small}
 use Rattle.tube.proofs.scatter.to_right.Goals as goal
 
-pub times-p-requires : goal.times-p-requires
-times-p-requires c =
-    let s = c.before in
-    (rw c.plus.ensures (plus-r s.args.r.n s.requires.0), omega (arith, s.requires.1))
-
 pub minus-requires : goal.minus-requires
 minus-requires c =
     let p = c.before in
@@ -17,17 +12,4 @@ minus-requires c =
       rw (p.times-p.ensures, p.plus.ensures)
           (product_small (pos 32768 +ℤ r) s.args.last.n (plus-r r s.requires.0) s.requires.1),
       rw c.times-q.ensures (product_small r s.args.fb.n (omega (arith, s.requires.0)) s.requires.2),
-    )
-
-pub returns : goal.returns
-returns c =
-    let m = c.before.before in
-    let p = m.before.before in
-    rw (
-      c.clip.ensures,
-      c.divide.ensures,
-      m.minus.ensures,
-      m.times-q.ensures,
-      p.times-p.ensures,
-      p.plus.ensures,
     )
