@@ -1,7 +1,7 @@
 -- One sample of a filter of any order: its state stays within 2M, and two states come no further apart.
 -- Assumes nothing.
 use mathlib.Core.Path.{◌≡◌, refl, ap}
-use mathlib.Core.List.{List, [], ◌∷◌, reverse, reverse_aux}
+use mathlib.Core.List.{List, [], ◌∷◌, ◌++◌, reverse, reverse_aux}
 use Prim.Native.Nat.{◌^◌, ℕ, zero, suc, ◌+◌, ◌*◌, ◌≤◌}
 use native.Mathlib.Omega.{arith}
 use native.Mathlib.Nat.{le_trans, mul-le-mul_left, mul-le-mul_right}
@@ -22,6 +22,18 @@ head-within x (more p h) = p
 
 pub tail_within : {B : ℕ} {x : ℤ} {v : List ℤ} → Within B (x ∷ v) → Within B v
 tail_within (more p h) = h
+
+pub append-within : {B : ℕ} {v u : List ℤ} → Within B v → Within B u → Within B (v ++ u)
+append-within none k = k
+append-within (more p h) k = more p (append-within h k)
+
+pub front_within : {B : ℕ} (v u : List ℤ) → Within B (v ++ u) → Within B v
+front_within [] u h = none
+front_within (x ∷ v) u (more p h) = more p (front_within v u h)
+
+pub back-within : {B : ℕ} (v u : List ℤ) → Within B (v ++ u) → Within B u
+back-within [] u h = h
+back-within (x ∷ v) u (more p h) = back-within v u h
 
 pub shift-within : {B : ℕ} {v : List ℤ} (w : ℤ) → nat_abs w ≤ B → Within B v → Within B (shift w v)
 shift-within w k none = none

@@ -7,15 +7,16 @@ use mathlib.Core.Option.{Option, none, some}
 use Prim.Native.Nat.{ℕ, zero, suc, ◌+◌, ◌*◌, ◌≤◌, ◌<◌}
 use native.Mathlib.Omega.{arith}
 use lib.Dec.{eqb}
-use lib.IntN.{ℤ, pos, nat_abs}
-use lib.ListN.{length, take, drop, length-reverse}
-use borrow.Author.Tests.{eqb-true, eqb-false, eq-eqb, ne_eqb}
+use lib.IntN.{ℤ, nat_abs}
+use lib.ListN.{length, drop, length-reverse}
+use borrow.Author.Tests.{eqb-true, eq-eqb}
 use Rattle.integer.specs.Rounding.{M}
 use Rattle.refusal.specs.Limits.{Limit, met, refusal}
 use Rattle.refusal.specs.Orders.{orders, most_loss, most_advance}
 use Rattle.refusal.specs.Returned.{Kept, AllKept, none, more}
 use Rattle.refusal.proofs.Returned.{here, past, is-kept, kept-is}
 use Rattle.samples.specs.Samples.{loudest}
+use Rattle.allpass.proofs.Bounds.{append-within}
 use Rattle.allpass.specs.Bounds.{Within, none, more}
 use Rattle.allpass.specs.Stored.{stored, entries, held}
 use Rattle.allpass.specs.declared.State.{State as Three}
@@ -78,10 +79,6 @@ quiet (x ∷ xs) h = more {x = x} (omega arith) (quiet xs (omega arith))
 pub unquiet : {B : ℕ} {xs : List ℤ} → Within B xs → loudest xs ≤ B
 unquiet none = omega arith
 unquiet (more p h) = omega (arith, unquiet h)
-
-append-within : {B : ℕ} {v u : List ℤ} → Within B v → Within B u → Within B (v ++ u)
-append-within none k = k
-append-within (more p h) k = more p (append-within h k)
 
 pub turned_within : {B : ℕ} {xs : List ℤ} → Within B xs → Within B (reverse xs)
 turned_within none = none

@@ -16,6 +16,7 @@ mod read;
 mod write;
 
 // The head that the words are.
+#[tactic(auto, unfolding(crate::specs::Words::head_of))]
 pub fn unpack(words: &[u32; 27]) -> Head
     ensures { result ≡ head_of words.now }
 {
@@ -35,6 +36,7 @@ pub fn unpack(words: &[u32; 27]) -> Head
 }
 
 // The words of a head, place by place: without a heap no arrays are joined.
+#[tactic(auto, unfolding(crate::specs::Words::head_of))]
 pub fn pack(h: Head) -> [u32; 27]
     requires { Fit h }
     ensures { head_of result ≡ h }

@@ -1,32 +1,30 @@
 -- One step of a quiet voice with input 0: what goes round is shifted, and what goes in is smaller by one.
 -- Assumes nothing.
-use mathlib.Core.Path.{◌≡◌, refl, sym, ap, subst, ◌∙◌}
+use mathlib.Core.Path.{◌≡◌, sym, ap, subst, ◌∙◌}
 use mathlib.Core.List.{List, [], ◌∷◌, ◌++◌}
 use mathlib.Core.Option.{none}
-use Prim.Native.Nat.{ℕ, zero, suc, ◌+◌, ◌*◌, ◌-◌, ◌/◌, ◌≤◌, ◌<◌}
+use Prim.Native.Nat.{ℕ, ◌*◌, ◌-◌, ◌≤◌, ◌<◌}
 use native.Mathlib.Omega.{arith}
 use native.Mathlib.Nat.{mul-le-mul}
-use borrow.Author.Tests.{eq-eqb}
-use lib.Dec.{eqb}
 use lib.IntN.{ℤ, pos, nat_abs, ◌+ℤ◌, ◌*ℤ◌}
-use lib.ListN.{length, take, get_or}
+use lib.ListN.{take}
 use lib.Seq.{get_or-take}
 use Rattle.integer.specs.Rounding.{M, clip}
 use Rattle.integer.specs.Cut.{Q}
-use Rattle.integer.proofs.View.{+v, absv, near}
+use Rattle.integer.proofs.View.{absv, near}
 use Rattle.integer.proofs.Ring.{abs-*, abs-+}
 use Rattle.integer.proofs.Rounding.{clipv}
 use Rattle.integer.proofs.Cut.{Q-abs}
 use Rattle.thiran.specs.Coefficients.{norm}
-use Rattle.allpass.specs.Allpass.{shift, final, next}
+use Rattle.allpass.specs.Allpass.{shift, final}
 use Rattle.allpass.specs.Bounds.{Within}
-use Rattle.allpass.proofs.Bounds.{head-within, final-within}
+use Rattle.allpass.proofs.Bounds.{head-within, front_within, back-within, final-within}
 use Rattle.allpass.proofs.Still.{next-still, out-still}
 use Rattle.rule.specs.Voice.{Voice, Pluck, A, noise, spent, output, written, heard, settled, stepped}
 use Rattle.rule.specs.State.{State, back, step, sounds}
 use Rattle.rule.specs.Valid.{Whole}
 use Rattle.rule.proofs.Read.{get_d_within}
-use Rattle.rule.proofs.Loop.{loop, loop_same, loop_shift, front_within, back-within}
+use Rattle.rule.proofs.Loop.{loop, loop_same, loop_shift}
 
 -- ---- no pluck, nothing waits
 noise-over : (p : Pluck) → p.left ≡ 0 → noise p ≡ pos 0

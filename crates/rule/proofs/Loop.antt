@@ -1,6 +1,6 @@
 -- What goes round in a voice, as one list: the line as far as L, the filter state and the last output.
 -- While the filter is a delay, a step puts s(n) in front of it and drops the last. Assumes nothing.
-use mathlib.Core.Path.{◌≡◌, refl, sym, ap, ◌∙◌}
+use mathlib.Core.Path.{◌≡◌, refl, ap, ◌∙◌}
 use mathlib.Core.List.{List, [], ◌∷◌, ◌++◌}
 use Prim.Native.Nat.{ℕ, zero, suc, ◌+◌, ◌-◌, ◌≤◌, ◌<◌}
 use native.Mathlib.Omega.{arith}
@@ -40,19 +40,6 @@ module _ {D E : ℕ} where
   shift-new x k end = end
   shift-new x k (old {x = y} p h) = new k (shift_old y p h)
   shift-new x k (new {x = y} p h) = new k (shift-new y p h)
-
--- ---- parts of a list within B
-pub append-within : {B : ℕ} {v u : List ℤ} → Within B v → Within B u → Within B (v ++ u)
-append-within none k = k
-append-within (more p h) k = more p (append-within h k)
-
-pub front_within : {B : ℕ} (v u : List ℤ) → Within B (v ++ u) → Within B v
-front_within [] u h = none
-front_within (x ∷ v) u (more p h) = more p (front_within v u h)
-
-pub back-within : {B : ℕ} (v u : List ℤ) → Within B (v ++ u) → Within B u
-back-within [] u h = h
-back-within (x ∷ v) u (more p h) = back-within v u h
 
 -- ---- the list: L numbers of the line l, newest first, then the state q and the last output y
 abbrev pub loop : ℕ → List ℤ → List ℤ → ℤ → List ℤ

@@ -21,7 +21,8 @@ use Rattle.rule.specs.Valid.{Whole}
 use Rattle.rule.specs.Silence.{Quiet, Zeros, end, before, fading, SilentFrom, tuned, Silence}
 use Rattle.rule.proofs.States.{take_within, fresh-whole, from-whole}
 use Rattle.rule.proofs.Puts.{length-out, puts-append}
-use Rattle.rule.proofs.Loop.{all_old, append-within}
+use Rattle.rule.proofs.Loop.{all_old}
+use Rattle.allpass.proofs.Bounds.{append-within}
 use Rattle.rule.proofs.Fading.{Fading, zeros-out, zeros-after}
 
 -- a voice within B has B turns before it

@@ -14,7 +14,7 @@ use Rattle.integer.specs.Rounding.{M}
 use Rattle.samples.specs.Samples.{loudest, over}
 use Rattle.samples.proofs.Samples as Samples
 use Rattle.allpass.specs.Bounds.{Within, none, more}
-use Rattle.allpass.proofs.Bounds.{rest-within}
+use Rattle.allpass.proofs.Bounds.{rest-within, append-within, front_within, back-within}
 use Rattle.line.specs.Ring.{ring}
 use Rattle.octets.specs.Octets.{bytes, laid}
 use Rattle.octets.proofs.Laws.{laid_next}
@@ -39,18 +39,6 @@ use Rattle.store.specs.Stores.{Stores}
 use Rattle.store.proofs.Heads.{storable}
 
 -- ---- a line sounds where its numbers are not all those of silence
-append-within : {B : ℕ} {v u : List ℤ} → Within B v → Within B u → Within B (v ++ u)
-append-within none k = k
-append-within (more p h) k = more p (append-within h k)
-
-front_within : {B : ℕ} (v u : List ℤ) → Within B (v ++ u) → Within B v
-front_within [] u h = none
-front_within (x ∷ v) u (more p h) = more p (front_within v u h)
-
-back-within : {B : ℕ} (v u : List ℤ) → Within B (v ++ u) → Within B u
-back-within [] u h = h
-back-within (x ∷ v) u (more p h) = back-within v u h
-
 wider : {A B : ℕ} {xs : List ℤ} → A ≤ B → Within A xs → Within B xs
 wider h none = none
 wider h (more {x} p w) = more {x = x} (omega arith) (wider h w)
