@@ -2,7 +2,7 @@
 // The whole record is tested before any field is read.
 #![tactic(auto)]
 
-ghost use Rattle.std.specs.Prelude.{◌≡◌, ◌↔◌, IsTrue, IfOk, ◌∷◌, ◌+◌, ◌*◌, ◌/◌, ◌%◌, ◌≤◌, ◌<◌, length, drop, replicate};
+ghost use Rattle.std.specs.Prelude.{◌≡◌, ◌↔◌, IsTrue, OnOk, ◌∷◌, ◌+◌, ◌*◌, ◌/◌, ◌%◌, ◌≤◌, ◌<◌, length, drop, replicate};
 ghost use Rattle.record.specs.Record.{bytes as bytes_of, word as Word, without as Without};
 ghost use Rattle.refusal.specs.Numbers.{number_of, code_of};
 ghost use Rattle.record.specs.Record.{map_of, ill_formed, record_number};
@@ -93,10 +93,11 @@ fn is_ill_formed(map: u32) -> bool
         || lacks(bit(map, INSTANT), map / HAS_LENGTH % 4)
 }
 
-// The bit map of the record that the slice starts with, where the record is whole and well formed.
-fn accepted(s: &[u8]) -> Result<u32, Refusal>
+// The record that the slice starts with is whole and well formed. The map is read anew where it is: as the value of this
+// Result it made a record take 11.9 ns for 11.2.
+fn whole(s: &[u8]) -> Result<(), Refusal>
     ensures number { code_of result ≡ record_number s.now }
-    ensures whole { IfOk result (λ map. (map ≡ map_of s.now) × (bytes_of map ≤ length s.now)) }
+    ensures whole { OnOk result (bytes_of (map_of s.now) ≤ length s.now) }
 {
     if s.is_empty() {
         return Err(Refusal::CutShort);
@@ -108,7 +109,7 @@ fn accepted(s: &[u8]) -> Result<u32, Refusal>
     if is_ill_formed(map) {
         return Err(Refusal::BitMap);
     }
-    Ok(map)
+    Ok(())
 }
 
 // A number of 16 bits, low byte first.
@@ -133,8 +134,9 @@ pub fn read(s: &[u8], fields: &mut [u32; 9]) -> usize
     ensures fields_after { fields.new ≡ Fields s.now }
     ensures upper_bound { (result ≤ length s.now) × (drop result s.now ≡ Rest s.now) }
 {
-    match accepted(s) {
-        Ok(map) => {
+    match whole(s) {
+        Ok(()) => {
+            let map = u32::from(s[0]);
             fill(words_of(s, map), map, fields);
             bytes(map)
         }
@@ -146,13 +148,14 @@ pub fn read(s: &[u8], fields: &mut [u32; 9]) -> usize
 }
 
 // The same, and returns the part of the slice after the record: a form that document 01 names. What stands here stands in
-// `read` too: as `read` and a slice from its result on, a record took 12.5 ns for 11.2.
+// `read` too: as `read`, inlined, and a slice from its result on, a record took 12.0 ns for 11.2.
 pub fn read_record<'a>(s: &'a [u8], fields: &mut [u32; 9]) -> &'a [u8]
     ensures fields_after { fields.new ≡ Fields s.now }
     ensures result_value { result.now ≡ Rest s.now }
 {
-    match accepted(s) {
-        Ok(map) => {
+    match whole(s) {
+        Ok(()) => {
+            let map = u32::from(s[0]);
             let n = bytes(map);
             fill(words_of(s, map), map, fields);
             &s[n..]

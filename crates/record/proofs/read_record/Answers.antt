@@ -8,13 +8,16 @@ use Rattle.record.proofs.Words.{cuts-of, cut-fields}
 use Rattle.record.proofs.Reading.{refused-fields, refused-rest, taken-rest}
 use Rattle.record.proofs.read_record.Goals as goal
 
+pub bounds-s-0 : goal.bounds-s-0
+bounds-s-0 c = omega (arith, c.in-Ok.ensures.whole)
+
 pub returns-in-Ok-clause-fields_after : goal.returns-in-Ok-clause-fields_after
 returns-in-Ok-clause-fields_after c =
     let s = c.args.s.now in
     let a = c.in-Ok.ensures in
     let known : Bytes s = λ j. omega (arith, c.type_inv.s j) in
     c.fill.ensures
-    ∙ ap (λ (l : List ℕ). 0 ∷ l) (cuts-of s a.whole.0 c.words_of.ensures.0 c.words_of.ensures.1)
+    ∙ ap (λ (l : List ℕ). 0 ∷ l) (cuts-of s c.from-map.ensures c.words_of.ensures.0 c.words_of.ensures.1)
     ∙ cut-fields s known a.number
 
 pub returns-in-Ok-clause-result_value : goal.returns-in-Ok-clause-result_value
@@ -22,7 +25,7 @@ returns-in-Ok-clause-result_value c =
     let s = c.args.s.now in
     let a = c.in-Ok.ensures in
     part_to_end s c.bytes-n.result
-    ∙ ap (λ (n : ℕ). drop n s) (c.bytes-n.ensures ∙ ap bytes a.whole.0)
+    ∙ ap (λ (n : ℕ). drop n s) (c.bytes-n.ensures ∙ ap bytes c.from-map.ensures)
     ∙ taken-rest s a.number
 
 pub returns-in-Err-clause-fields_after : goal.returns-in-Err-clause-fields_after

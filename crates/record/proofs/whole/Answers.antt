@@ -1,7 +1,7 @@
--- `record::accepted` meets its contract: 14, then 15, then the map.
+-- `record::whole` meets its contract: 14, then 15.
 use Rattle.std.proofs.Common.{arith}
 use Rattle.record.proofs.Reading.{cut_short, bad_map, good_map}
-use Rattle.record.proofs.accepted.Goals as goal
+use Rattle.record.proofs.whole.Goals as goal
 
 pub returns-then-is_empty-clause-number : goal.returns-then-is_empty-clause-number
 returns-then-is_empty-clause-number c = cut_short c.args.s.now (grind arith)
