@@ -1,6 +1,7 @@
 // A voice in memory that a host keeps: 27 words, which crate packed reads and writes, and a line. Each
 // routine is one call of document 01 or 02 on it; what it requires is the voice's invariant, which Open
-// gives and each routine hands on. In `change`, the changes; in `blocks`, the samples.
+// gives and each routine hands on. In `changes`, the changes; in `blocks`, the samples. The words and the line
+// are two, and no struct: C lends them so.
 #![tactic(auto)]
 
 ghost use Rattle.refusal.specs.Numbers.{code_of};

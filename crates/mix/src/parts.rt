@@ -1,5 +1,6 @@
 // A block of all six strings by parts of 64 samples, rendered in place: each sample of the buffer is an
-// input where one is fed, else 0 comes in, and becomes the mix.
+// input where one is fed, else 0 comes in, and becomes the mix. That is a flag and no Option of an input: the
+// buffer is lent either way, and its length counts.
 ghost use Rattle.std.specs.Prelude.{◌≡◌, ◌≤◌, ◌<◌, length};
 ghost use Rattle.integer.specs.Rounding.{M};
 ghost use Rattle.samples.specs.Samples.{loudest};

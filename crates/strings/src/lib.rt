@@ -1,7 +1,8 @@
 // Six strings in memory that a host keeps: a row of 27 words and a row of 2,112 samples for each. Each
 // routine is one call on one string (document 02, L11): 24 where there is no such string, ahead of the
 // call's own tests; else the call of crate kept on that row. In `changes`, the changes; in `stores`, the
-// store and the load, of crate snapshot. Crate mix has the block of all six.
+// store and the load, of crate snapshot. Crate mix has the block of all six. Heads and lines are two arrays,
+// and no array of voices: C lends them so.
 #![tactic(auto)]
 
 ghost use Rattle.refusal.specs.Numbers.{code_of};

@@ -14,9 +14,6 @@ zeros-quiet : (n : ℕ) → loudest (replicate n (pos 0)) ≤ M
 zeros-quiet zero = omega arith
 zeros-quiet (suc n) = omega (arith, zeros-quiet n)
 
-pub unfed-requires : goal.unfed-requires
-unfed-requires c = rw c.unpack.ensures c.requires
-
 pub returns : goal.returns
 returns c =
     let s = c.args in

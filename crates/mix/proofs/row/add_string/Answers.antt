@@ -11,12 +11,11 @@ use Rattle.voice.specs.Struct.{state_of}
 use Rattle.loops.specs.Fed.{fed_of}
 use Rattle.loops.proofs.Fed.{length-fed}
 use Rattle.packed.specs.Words.{head_of}
-use Rattle.mix.specs.Sums.{plus}
 use Rattle.mix.proofs.Added.{out-quiet}
 use Rattle.mix.proofs.row.add_string.Goals as goal
 
-pub add-requires : goal.add-requires
-add-requires c =
+pub add-requires-clause-samples_len : goal.add-requires-clause-samples_len
+add-requires-clause-samples_len c =
     let r = c.render_string in
     let v = state_of (head_of c.args.head.now) c.args.line.now in
     let xs = fed_of c.args.fed 0 c.args.input.now in
@@ -27,13 +26,4 @@ add-requires c =
     ∙ c.requires.input_len.0 in
     let q : loudest r.new.output ≤ M
     = subst (λ (l : List ℤ). loudest l ≤ M) (sym r.ensures.out) (out-quiet v xs) in
-    record { samples_len = (n, q); sums_bound = c.requires.sums_bound }
-
-pub returns : goal.returns
-returns c =
-    let r = c.render_string in
-    let s = c.args in
-    record {
-      after = r.ensures.after;
-      added = c.add.ensures ∙ ap (λ (l : List ℤ). plus s.sums.now l) r.ensures.out;
-    }
+    (n, q)
