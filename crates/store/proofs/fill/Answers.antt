@@ -79,7 +79,7 @@ samples-requires c =
     let r6 = for-more r5 c.part-a5.ensures in
     let r7 = for-more r6 c.part-a6.ensures in
     let r8 = for-more r7 c.part-a7.ensures in
-    (for-one r8, c.requires.1, c.requires.2, c.requires.3)
+    (for-one r8, c.requires.1, c.requires.2)
 
 pub returns : goal.returns
 returns c =

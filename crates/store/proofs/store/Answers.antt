@@ -32,7 +32,6 @@ fill-requires c =
       omega (arith, l, c.size-n.ensures, c.if-out-n.false, c.put.auto.out),
       c.requires.fit.at,
       c.requires.line,
-      long,
     )
 
 pub returns : goal.returns
