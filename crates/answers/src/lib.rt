@@ -10,7 +10,7 @@ mod recordings;
 use help::help;
 use pitch::Parts;
 use print::Printer;
-use refusal::code;
+use refusal::{Refusal, code};
 use request::Request;
 use request::kinds::Kind;
 use request::lists::{bytes_room, read_list};
@@ -32,19 +32,10 @@ fn coefficients(out: &mut Printer, l: Request)
     out.signed(taps.a3);
 }
 
-fn length(out: &mut Printer, l: Request)
+// What a routine returned that gives one number, 0 where it is refused.
+fn counted(out: &mut Printer, answer: Result<u32, Refusal>)
     ensures { place out.new.held ≤ 4097 }
 {
-    let [order, delay, threshold, ..] = l.numbers;
-    let answer = allpass::effective_length(order, delay, threshold);
-    out.numbers(&[code(answer), answer.unwrap_or(0)]);
-}
-
-fn least(out: &mut Printer, l: Request)
-    ensures { place out.new.held ≤ 4097 }
-{
-    let [order, delay, wanted, ..] = l.numbers;
-    let answer = advance::least(order, delay, wanted);
     out.numbers(&[code(answer), answer.unwrap_or(0)]);
 }
 
@@ -93,16 +84,17 @@ fn gather(out: &mut Printer, l: Request)
 pub fn asked(out: &mut Printer, l: Request)
     ensures { place out.old.held ≤ 4097 → place out.new.held ≤ 4097 }
 {
+    let [a, b, c, ..] = l.numbers;
     match l.kind {
         Kind::Coefficients => coefficients(out, l),
-        Kind::Length => length(out, l),
+        Kind::Length => counted(out, allpass::effective_length(a, b, c)),
         Kind::Note => note(out, l),
         Kind::Draw => draw(out, l),
         Kind::Record => record(out, l),
         Kind::WavWrite => recordings::write(out, l),
         Kind::WavRead => recordings::read(out, l),
         Kind::Gather => gather(out, l),
-        Kind::Least => least(out, l),
+        Kind::Least => counted(out, advance::least(a, b, c)),
         Kind::Help => help(out),
         _ => {}
     }

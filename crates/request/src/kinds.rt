@@ -7,8 +7,8 @@ ghost use Rattle.request.specs.Table.{table as Table, Named, row, name};
 use crate::table::TABLE;
 use words::pieces::{ahead, piece};
 
-// In the order of the table's rows. Empty is a line with no word, Error one that is none of the others, and Long one
-// that is too long.
+// In the order of the table's rows. Empty is a line with no word, Error one that is none of the others, and Long
+// one that is too long.
 #[derive(Clone, Copy, PartialEq, Eq)]
 pub enum Kind {
     Empty,
@@ -158,8 +158,8 @@ pub fn on_string(kind: Kind, string: u32) -> bool {
     }
 }
 
-// How many samples or bytes a line lends or shows, where its first two numbers are n and m; none is more than the
-// kind allows.
+// How many samples or bytes a line lends or shows, where its first two numbers are n and m; None where they are
+// more than the kind allows.
 pub fn lent(kind: Kind, n: u32, m: u32) -> Option<usize>
     ensures { IfSome result (λ count. count ≤ 32768) }
 {

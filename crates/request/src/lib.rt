@@ -14,8 +14,8 @@ pub mod table;
 use kinds::Kind;
 pub use line::parse;
 
-// string is the string that it is a call on, places is how many samples or bytes are lent or shown, list is the text
-// of its list of samples or bytes, and numbers are those that follow the name, 0 where there are fewer.
+// string is the string that it is a call on, places is how many samples or bytes are lent or shown, list is the
+// text of its list of samples or bytes, and numbers are those that follow the name, as many as its kind wants.
 #[derive(Clone, Copy)]
 pub struct Request<'a> {
     pub kind: Kind,

@@ -1,5 +1,4 @@
-// Lists of words: numbers, samples and bytes, read into lent arrays, of which each function returns the part that
-// it filled.
+// Lists of words: numbers, samples and bytes, read into lent arrays.
 ghost use Rattle.std.specs.Prelude.{◌≡◌, ◌≤◌, IfSome, length, replicate};
 ghost use Rattle.request.specs.Rest.{Rest, Spells};
 

@@ -19,6 +19,7 @@ pub fn two_samples(s: &[u8]) -> Option<(i32, i32)> {
 pub fn two_lists<'a>(s: &'a [u8]) -> Option<(&'a [u8], &'a [u8])>
     ensures { IfSome result (λ r. s.now ≡ r.0.now ++ 47 ∷ r.1.now) }
 {
+    // By places and not by what is left: the text is cut at a place.
     let mut at = 0;
     while at < s.len() {
         let w = word(&s[at..]);
