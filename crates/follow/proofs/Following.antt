@@ -9,7 +9,6 @@ use native.Mathlib.Decide.{ℕ_discrete}
 use borrow.Author.Tests.{eq-eqb, ne_eqb}
 use lib.Dec.{eqb}
 use lib.IntN.{ℤ}
-use Rattle.rule.specs.Voice.{tuning}
 use Rattle.rule.specs.Calls.{Call, announce, instant}
 use Rattle.rule.specs.State.{State, from}
 use Rattle.voice.specs.declared.Head.{Head}
@@ -17,7 +16,7 @@ use Rattle.voice.specs.Called.{Answer}
 use Rattle.voice.specs.Struct.{state_of}
 use Rattle.voice.specs.Valid.{Valid}
 use Rattle.voice.specs.Called.{On}
-use Rattle.follow.specs.Follow.{value, stands, change_to, change, result, then, act_calls}
+use Rattle.follow.specs.Follow.{stands, change_to, change, result, then, act_calls}
 use Rattle.follow.specs.Does.{Does}
 use Rattle.rule.proofs.Puts.{from-append}
 use Rattle.follow.proofs.Sequence.{result-past, result-one, then-past, then-stops}
@@ -137,13 +136,8 @@ change-alone r v e f j =
     none true = refl
     none false = refl
 
--- to the L and d that were chosen, announced or instant
+-- a change, announced or instant
 module _ (r : List ℕ) (v : State) where
-  pub tuned : {b L c d : ℕ} → L ≡ cond (eqb b 0) v.voice.tuning.L (value r 1) → b ≡ stands r 1
-      → d ≡ cond (eqb c 0) v.voice.tuning.d (value r 2) → c ≡ stands r 2
-      → tuning v.voice.tuning.N L d ≡ change_to r v
-  tuned e i j k = rw (e, i, j, k)
-
   pub announced : stands r 7 ≡ 0 → announce (change_to r v) ≡ change r v
   announced z = rw (eq-eqb (stands r 7) 0 z)
 
@@ -153,15 +147,3 @@ module _ (r : List ℕ) (v : State) where
 pub on_as : {h : Head} {l : List ℤ} {c b : Call} {a : Answer} {k : List ℤ} → On h l c a k → c ≡ b
     → On h l b a k
 on_as {h} {l} {a} {k} o e = subst (λ (x : Call). On h l x a k) e o
-
--- ---- a call whose caller keeps the head, which is g where the call is not refused
-module _ {h : Head} {l : List ℤ} {c : Call} {k : List ℤ} {n : ℕ} (g : Head)
-    (o : On h l c (record { refusal = n; head = cond (eqb n 0) g h }) k) where
-  pub start-refused : (n ≡ 0 → ⊥) → On h l c (record { refusal = n; head = h }) k
-  start-refused f =
-      subst (λ (b : Bool). On h l c (record { refusal = n; head = cond b g h }) k) (ne_eqb n 0 f) o
-
-  pub start-made : n ≡ 0 → {r : Head} → r ≡ g → On h l c (record { refusal = 0; head = r }) k
-  start-made z e =
-      subst (λ (r : Head). On h l c (record { refusal = 0; head = r }) k) (sym e)
-      (subst (λ (m : ℕ). On h l c (record { refusal = m; head = cond (eqb m 0) g h }) k) z o)

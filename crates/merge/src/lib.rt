@@ -30,6 +30,7 @@ pub struct MergeEnd {
 }
 
 // A score on the way: where its next record starts, the samples since its last one, and its course.
+// A place and not the bytes behind it: both scores are lent beside it, and a turn changes the place alone.
 #[derive(Clone, Copy)]
 pub struct Side {
     pub at: usize,

@@ -35,6 +35,7 @@ fn put_next(out: &mut [u8], at: usize, q: &[u32; 9], writes: bool)
 
 // The walk: with `writes` the records are put behind the header. The room is tested before each, so that the length
 // never grows past it.
+// A flag and not an Option of the slice: without a write the walk tests the slice's room all the same.
 pub fn walk(
     order: u32,
     advance: u32,

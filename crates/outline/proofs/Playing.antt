@@ -4,7 +4,7 @@ use mathlib.Core.List.{List, []}
 use Prim.Native.Nat.{ℕ, zero, suc, ◌+◌, ◌≤◌, ◌<◌}
 use native.Mathlib.Omega.{arith}
 use borrow.Author.Tests.{eq-eqb, ne_eqb}
-use lib.ListN.{length, get_or, length-drop}
+use lib.ListN.{length, length-drop}
 use Rattle.record.specs.Record.{bytes, map_of, record_number, fields, rest}
 use Rattle.record.proofs.Reading.{taken-rest}
 use Rattle.score.specs.Run.{Outcome, ends, joined}
@@ -14,10 +14,6 @@ use Rattle.outline.specs.Struct.{PlaysAll}
 -- a record that is read takes a byte at least
 pub shorter : (t : List ℕ) → 0 < length t → record_number t ≡ 0 → length (rest t) < length t
 shorter t h e = rw (← taken-rest t (sym e)) (omega (arith, length-drop (bytes (map_of t)) t))
-
-pub read_number : (t : List ℕ) {r : List ℕ} → r ≡ fields t → get_or r 0 0 ≡ record_number t
-unfolding fields
-read_number t e = ap (λ (l : List ℕ). get_or l 0 0) e
 
 module _ (N Na : ℕ) where
   no_record : (n : ℕ) (o : Outline) (t : List ℕ) (k : ℕ) → length t ≡ 0 → records N Na n o t k ≡ ends 0 k []

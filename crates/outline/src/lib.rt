@@ -8,7 +8,7 @@ ghost use Rattle.refusal.specs.Numbers.{code_of};
 ghost use Rattle.rule.specs.Voice.{tuning as RuleTuning};
 ghost use Rattle.outline.specs.Outline.{Outline, passed as Passed, waits as Waits, change_tests};
 ghost use Rattle.outline.specs.Outline.{result as outcome, loss_calls, pluck_calls};
-ghost use Rattle.outline.specs.Struct.{ahead_of, outline_of, Order, Asks, after_change, Changes, Acts};
+ghost use Rattle.outline.specs.Struct.{ahead_of, outline_of, Asks, after_change, Changes, Acts};
 ghost use Rattle.outline.specs.Struct.{Follows, ended, PlaysAll};
 
 use follow::changes::chosen;
@@ -28,6 +28,7 @@ pub struct Span {
 }
 
 // L and d in force; those of a change that waits; and the samples that it still takes, 0 where none waits.
+// Not an Option of what waits: a change with 0 samples to take is in force, so that its 0 says the same.
 #[derive(Clone, Copy)]
 pub struct Course {
     pub span: Span,

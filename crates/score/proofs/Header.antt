@@ -6,13 +6,12 @@ use Prim.Native.Nat.{ℕ, ◌≤◌, ◌<◌}
 use native.Mathlib.Omega.{arith}
 use borrow.Author.Tests.{eq-eqb, ne_eqb}
 use lib.IntN.{ℤ}
-use lib.ListN.{length, get_or, drop}
+use lib.ListN.{length, drop}
 use Rattle.refusal.specs.Limits.{Limit, refusal}
 use Rattle.refusal.proofs.Returned.{here, past, kept-is, is-met}
 use Rattle.rule.specs.Calls.{open_limits}
 use Rattle.rule.specs.State.{fresh}
 use Rattle.score.specs.declared.Played.{Played}
-use Rattle.record.specs.Record.{word}
 use Rattle.score.specs.Run.{ends, opening, header_limits, run}
 use Rattle.score.specs.Played.{PlaysAll, Runs}
 use Rattle.score.proofs.Playing.{plays_as}
@@ -30,10 +29,6 @@ module _ (s : List ℕ) where
   unfolding whole
   header-whole h e =
       past whole (open_limits (opening s)) (kept-is whole (record { least = h; most = omega arith })) e
-
-  pub opening-is : {L d G : ℕ} → L ≡ word s 2 → d ≡ word s 4 → G ≡ word s 6
-      → record { N = get_or s 0 0; L = L; d = d; G = G; Na = get_or s 1 0 } ≡ opening s
-  opening-is e i j = cc
 
   pub run-refused : (out : List ℤ) {n : ℕ} → n ≡ refusal (header_limits s) → (n ≡ 0 → ⊥)
       → Runs s out (record { refusal = n; place = 0; written = 0 }) out

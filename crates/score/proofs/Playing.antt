@@ -6,7 +6,7 @@ use Prim.Native.Nat.{ℕ, zero, suc, ◌+◌, ◌-◌, ◌≤◌, ◌<◌}
 use native.Mathlib.Omega.{arith}
 use borrow.Author.Tests.{eq-eqb, ne_eqb}
 use lib.IntN.{ℤ}
-use lib.ListN.{length, get_or}
+use lib.ListN.{length}
 use Rattle.refusal.specs.Limits.{refusal}
 use Rattle.refusal.specs.Returned.{AllKept, none, more, Returned}
 use Rattle.refusal.proofs.Returned.{returned}
@@ -50,10 +50,6 @@ begun s u out = let none_done : length out - 0 ≡ length out = omega arith in r
 -- demand 1 of a record in a run: 14, 15, then 16, each where its condition holds and no earlier one does
 pub play-returned : (t : List ℕ) (room : ℕ) → Returned (play_limits t room)
 play-returned t room = returned (play_limits t room) tt
-
-pub read_number : (t : List ℕ) {r : List ℕ} → r ≡ fields t → get_or r 0 0 ≡ refusal (record_limits t)
-unfolding fields record_number
-read_number t e = ap (λ (l : List ℕ). get_or l 0 0) e
 
 pub has_room : (t : List ℕ) (room : ℕ) → refusal (play_limits t room) ≡ 0
     → (record_number t ≡ 0) × (value (fields t) 0 ≤ room)

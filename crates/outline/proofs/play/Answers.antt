@@ -1,21 +1,21 @@
 -- `outline::play` meets its contract: each turn reads a record and follows it.
 use Rattle.std.proofs.Common.{rules}
 use Rattle.std.specs.Prelude.{Result, Ok, Err, MatchResult}
-use mathlib.Core.Path.{◌≡◌, refl, sym, ap, subst, ◌∙◌}
+use mathlib.Core.Path.{◌≡◌, sym, ap, subst, ◌∙◌}
 use mathlib.Core.List.{List}
 use Prim.Native.Nat.{ℕ, ◌+◌, ◌<◌}
 use native.Mathlib.Omega.{arith}
 use borrow.Author.Tests.{eqb-true, eqb-false}
 use lib.ListN.{length}
 use Rattle.refusal.specs.declared.Refusal.{Refusal}
-use Rattle.refusal.specs.Numbers.{number_of, code_of}
+use Rattle.refusal.specs.Numbers.{code_of}
 use Rattle.refusal.proofs.Numbers.{refused-above}
 use Rattle.record.specs.Record.{record_number, fields}
 use Rattle.outline.specs.declared.Course.{Course}
 use Rattle.outline.specs.declared.Stopped.{Stopped}
 use Rattle.outline.specs.Outline.{Outline, result, from, record_calls}
 use Rattle.outline.specs.Struct.{outline_of, Comes, Follows}
-use Rattle.outline.proofs.Playing.{Playing, begun, all-played, refused, stopped, goes_on, shorter}
+use Rattle.outline.proofs.Playing.{Playing, all-played, refused, stopped, goes_on, shorter}
 use Rattle.outline.proofs.play.Goals as goal
 use Rattle.outline.proofs.play.Lts as lts
 use Rattle.outline.proofs.play.Reads as reads

@@ -11,7 +11,6 @@ use borrow.Author.Tests.{eqb-true}
 use lib.ListN.{length}
 use Rattle.refusal.proofs.Numbers.{refused-above}
 use Rattle.voice.specs.Struct.{state_of}
-use Rattle.voice.specs.declared.Kind.TheVariants.{Announced}
 use Rattle.follow.proofs.Record.{does_as, does-still}
 use Rattle.score.proofs.Playing.{all-played, refused}
 use Rattle.score.proofs.play.Answers.Loop.{bytes, opened, lent, voice, left, index}

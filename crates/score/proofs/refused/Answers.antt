@@ -3,10 +3,9 @@
 use Rattle.std.proofs.Common.{rules}
 use Rattle.std.specs.Prelude.{Err}
 use mathlib.Core.Path.{◌≡◌, refl, sym, ap, ◌∙◌}
-use mathlib.Core.List.{List, [], ◌∷◌, ◌++◌}
+use mathlib.Core.List.{List, [], ◌∷◌}
 use Prim.Native.Nat.{ℕ}
 use native.Mathlib.Omega.{arith}
-use Rattle.refusal.specs.Limits.{refusal}
 use Rattle.refusal.proofs.Numbers.{refused-above}
 use Rattle.refusal.proofs.Returned.{here, past, kept-is, is-met}
 use Rattle.refusal.proofs.Passed.{stops, passes}

@@ -1,6 +1,6 @@
 -- `merge::walk::walk` meets its contract: turn by turn, until no record is left.
 use Rattle.std.specs.Prelude.{Result, Ok, Err}
-use mathlib.Core.Path.{◌≡◌, refl, subst}
+use mathlib.Core.Path.{◌≡◌, subst}
 use Rattle.refusal.specs.declared.Refusal.{Refusal}
 use Rattle.outline.specs.declared.Course.{Course}
 use mathlib.Core.Bool.{Bool}
