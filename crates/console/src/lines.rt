@@ -1,147 +1,83 @@
-// The lines that came: those that a line feed ends are answered, and what stands behind the last of them is kept.
-// A line that is too long is passed over up to its line feed.
+// The lines that came: those that a line feed ends are answered, and what stands behind the last of them is
+// kept. A line that fills the room is too long, and is passed over up to its line feed.
 ghost use Rattle.std.specs.Prelude.{◌≤◌, length};
-ghost use Rattle.voice.specs.Valid.{Valid};
-ghost use Rattle.tube.specs.Valid.{Valid as Joined};
-ghost use Rattle.tube.specs.Words.{from_words};
-ghost use Rattle.strings.specs.Rows.{Voices};
 
-use crate::held::{Kept, ROOM, rest, written};
-use crate::turn::answered;
-use crate::voices::Turn;
-use print::Out;
-use voice::Head;
+use crate::kept::Kept;
+use help::wrong;
+use input::front;
+use print::Printer;
+use request::kinds::Kind;
 use words::before;
 use words::pieces::bare;
 
-// The number of the line after a line.
-fn next(index: u64) -> u64 {
-    if index == 18_446_744_073_709_551_615 {
-        return index;
-    }
-    index + 1
+// The bytes that a line may have and one more, its line feed.
+pub const ROOM: usize = 1_048_577;
+
+// The number of the line that comes next, how many of its bytes the room holds, and whether it is too long.
+// A flag and no Option: a line that is too long has the others too.
+#[derive(Drop)]
+pub struct Coming {
+    pub index: u64,
+    pub held: usize,
+    pub long: bool,
+    ghost fits: { held ≤ 1048577 },
 }
 
-// Answers a line that a line feed ends, unless it is the end of one that is too long.
-fn one(
-    line: &mut [i32; 2112],
-    head: Head,
-    junction: &mut [u32; 16],
-    heads: &mut [[u32; 27]; 6],
-    lines: &mut [[i32; 2112]; 6],
-    out: Out,
-    buffer: &mut [u8; 4096],
-    at: usize,
-    s: &[u8],
-    index: u64,
-    long: bool,
-) -> Turn
-    requires { Valid head line.old × Joined (from_words junction.old)
-        × Voices heads.old lines.old }
-    ensures { Valid result.head line.new × Joined (from_words junction.new)
-        × Voices heads.new lines.new }
-{
-    if long {
-        return Turn { head: head, at: at };
-    }
-    answered(
-        line,
-        head,
-        junction,
-        heads,
-        lines,
-        out,
-        buffer,
-        at,
-        bare(s),
-        index,
-    )
-}
-
-// Answers each line of a text that a line feed ends, as long as standard output takes the answers.
-fn whole(
-    line: &mut [i32; 2112],
-    junction: &mut [u32; 16],
-    heads: &mut [[u32; 27]; 6],
-    lines: &mut [[i32; 2112]; 6],
-    k: Kept,
-    out: Out,
-    buffer: &mut [u8; 4096],
-    s: &[u8],
-) -> Kept
-    requires { Valid k.head line.old × Joined (from_words junction.old)
-        × Voices heads.old lines.old }
-    ensures { Valid result.head line.new × Joined (from_words junction.new)
-        × Voices heads.new lines.new
-        × (result.held ≤ length s.now) }
-{
-    let mut head = k.head;
-    let mut at = k.at;
-    let mut index = k.index;
-    let mut long = k.long;
-    let mut t = s;
-    while at <= 4_096 {
-        let e = before(t, b'\n');
-        if e == t.len() {
-            break;
+impl Coming {
+    // The first line.
+    pub fn new() -> Coming {
+        Coming {
+            index: 1,
+            held: 0,
+            long: false,
         }
-        let u = &t[e + 1..];
-        let r = one(
-            line,
-            head,
-            junction,
-            heads,
-            lines,
-            out,
-            buffer,
-            at,
-            &t[..e],
-            index,
-            long,
-        );
-        head = r.head;
-        at = r.at;
-        index = next(index);
-        long = false;
-        t = u;
     }
-    Kept {
-        head: head,
-        at: at,
-        index: index,
-        held: t.len(),
-        long: long,
-    }
-}
 
-// Answers what came, where the room now holds so many bytes.
-pub fn came(
-    line: &mut [i32; 2112],
-    junction: &mut [u32; 16],
-    heads: &mut [[u32; 27]; 6],
-    lines: &mut [[i32; 2112]; 6],
-    k: Kept,
-    out: Out,
-    buffer: &mut [u8; 4096],
-    room: &mut [u8; ROOM],
-    held: usize,
-) -> Kept
-    requires { Valid k.head line.old × Joined (from_words junction.old)
-        × Voices heads.old lines.old × (held ≤ 1048577) }
-    ensures { Valid result.head line.new × Joined (from_words junction.new)
-        × Voices heads.new lines.new
-        × (result.held ≤ 1048577) }
-{
-    let s: &[u8] = room;
-    let d = whole(line, junction, heads, lines, k, out, buffer, &s[..held]);
-    let n = rest(room, held, d.held, d.long);
-    let h = d.head;
-    let w = Kept {
-        head: h,
-        at: d.at,
-        index: d.index,
-        held: n,
-        long: d.long,
-    };
-    written(out, buffer, w)
+    // Answers each line of a text that a line feed ends, as long as standard output takes the answers, and
+    // returns what stands behind the last of them.
+    fn whole<'a>(&mut self, kept: &mut Kept, out: &mut Printer, s: &'a [u8]) -> &'a [u8]
+        ensures { length result.now ≤ length s.now }
+    {
+        let mut rest = s;
+        while out.held.is_some() {
+            let n = before(rest, b'\n');
+            if n == rest.len() {
+                break;
+            }
+            if !self.long {
+                kept.answer(out, bare(&rest[..n]), self.index);
+            }
+            self.index = self.index.saturating_add(1);
+            self.long = false;
+            rest = &rest[n + 1..];
+        }
+        rest
+    }
+
+    // Answers what came, where the room now holds so many bytes, brings what is left to the room's front, and
+    // writes the answers.
+    pub fn came(&mut self, kept: &mut Kept, out: &mut Printer, room: &mut [u8; ROOM], held: usize)
+        requires { held ≤ 1048577 }
+    {
+        let left = self.whole(kept, out, &room[..held]).len();
+        if left < held {
+            front(room, held - left, left);
+        }
+        self.held = if self.long { 0 } else { left };
+        if self.held == ROOM {
+            wrong(out, self.index, Kind::Long);
+            out.bytes(b"\n");
+            self.held = 0;
+            self.long = true;
+        }
+        out.flush();
+    }
+
+    // Answers the last line, which no line feed ends.
+    pub fn last(&self, kept: &mut Kept, out: &mut Printer, room: &[u8; ROOM]) {
+        if !self.long {
+            kept.answer(out, &room[..self.held], self.index);
+        }
+        out.flush();
+    }
 }

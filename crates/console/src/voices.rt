@@ -1,148 +1,89 @@
 // A line on the voice that the console keeps: its call is made, and answered behind the line's name.
-// What a line lends is made for its call.
-ghost use Rattle.std.specs.Prelude.{◌≤◌, ◌<◌, length};
-ghost use Rattle.voice.specs.Valid.{Valid};
-ghost use Rattle.request.specs.InLine.{InLine};
-
-use crate::calls::{blocked, call};
-use crate::merges::merge;
-use crate::run::run;
+// A block's output is lent with 77 at each place, the bytes of a stored voice with 4d.
+use crate::calls::{call_of, opening_of, returned};
+use crate::kept::KeptVoice;
+use crate::scores::{merge, panel, run};
 use crate::shown::{past, state};
-use crate::start::returned;
-use crate::stored::{load, panel, store};
+use crate::start::counted;
 use answers::asked;
-use print::{Out, samples, short};
+use list::words::Call;
+use open::Opening;
+use print::Printer;
+use refusal::{Refusal, code};
 use request::Request;
-use request::kinds::{BLOCK, LINE, LOAD, MERGE, PANEL, RUN, STATE, STORE};
-use voice::Head;
+use request::kinds::Kind;
+use request::lists::{bytes_room, read_list};
 
-// What is left after a line: the voice's head, and the place in the buffer.
-#[derive(Clone, Copy)]
-pub struct Turn {
-    pub head: Head,
-    pub at: usize,
-}
+impl KeptVoice {
+    // The voice of a refused opening.
+    pub fn new() -> KeptVoice {
+        let v = open::refusal_voice();
+        let line = v.line;
+        KeptVoice { line, head: v.head }
+    }
 
-// A call that lends nothing.
-fn called(
-    line: &mut [i32; 2112],
-    head: Head,
-    out: Out,
-    buffer: &mut [u8; 4096],
-    at: usize,
-    l: Request,
-) -> Turn
-    requires { Valid head line.old × (0 < l.kind) × (l.kind ≤ 8) }
-    ensures { Valid result.head line.new }
-{
-    let c = call(line, head, l);
-    let h = c.head;
-    Turn {
-        head: h,
-        at: returned(out, buffer, at, l.kind, c.refusal, c.count),
+    // Opens a voice in place of the one that was kept, also where Open refuses.
+    fn open(&mut self, opening: Opening) -> Result<(), Refusal> {
+        let opened = open::open(opening);
+        let line = opened.voice.line;
+        self.line = line;
+        self.head = opened.voice.head;
+        opened.answer
     }
-}
 
-// A block, whose output holds 77 before the call.
-fn rendered(
-    line: &mut [i32; 2112],
-    head: Head,
-    out: Out,
-    buffer: &mut [u8; 4096],
-    at: usize,
-    s: &[u8],
-    l: Request,
-) -> Turn
-    requires { Valid head line.old × InLine (length s.now) l }
-    ensures { Valid result.head line.new }
-{
-    let mut output = [77i32; 32768];
-    let c = blocked(line, head, s, l.list, &mut output, l.places);
-    let h = c.head;
-    let a = short(out, buffer, at, c.refusal);
-    Turn {
-        head: h,
-        at: samples(out, buffer, a, &output, l.places),
+    // A call that lends nothing; the count of an instant change, and 0 of any other.
+    fn change(&mut self, call: Call) -> Result<u32, Refusal> {
+        let changed = list::one::call(&self.line, self.head, call)?;
+        self.head = changed.head;
+        Ok(changed.count)
     }
-}
 
-// A stored voice in place of the one that was kept, by a refusal too.
-fn reload(
-    line: &mut [i32; 2112],
-    out: Out,
-    buffer: &mut [u8; 4096],
-    at: usize,
-    s: &[u8],
-    l: Request,
-) -> Turn
-    requires { InLine (length s.now) l }
-    ensures { Valid result.head line.new }
-{
-    let c = load(line, s, l.list);
-    let h = c.head;
-    Turn {
-        head: h,
-        at: short(out, buffer, at, c.refusal),
+    // A block over the samples that a line lists.
+    fn block(&mut self, out: &mut Printer, l: Request) {
+        let mut room = [0i32; 4096];
+        let input = read_list(l.list, &mut room).unwrap_or(&[]);
+        let mut lent = [77i32; 32768];
+        let output = &mut lent[..l.places];
+        let answer = block::block(&mut self.line, self.head, input, output);
+        self.head = answer.unwrap_or(self.head);
+        out.number(code(answer));
+        out.samples(output);
     }
-}
 
-// The answer to a line that leaves the voice as it is.
-fn told(
-    line: &[i32; 2112],
-    head: Head,
-    out: Out,
-    buffer: &mut [u8; 4096],
-    at: usize,
-    s: &[u8],
-    l: Request,
-) -> usize
-    requires { Valid head line.now × InLine (length s.now) l }
-{
-    if l.kind == STATE {
-        return state(out, buffer, at, head);
+    // A stored voice in place of the one that was kept, by a refusal too.
+    fn load(&mut self, l: Request) -> Result<(), Refusal> {
+        let mut room = bytes_room();
+        let bytes = read_list(l.list, &mut room).unwrap_or(&[]);
+        let loaded = load::load(bytes, &mut self.line);
+        self.head = loaded.head;
+        loaded.answer
     }
-    if l.kind == LINE {
-        return past(out, buffer, at, line, head.at, l.places);
-    }
-    if l.kind == STORE {
-        return store(line, head, out, buffer, at, l.places);
-    }
-    if l.kind == PANEL {
-        return panel(out, buffer, at, s, l.list);
-    }
-    if l.kind == RUN {
-        return run(out, buffer, at, s, l.list, l.places);
-    }
-    if l.kind == MERGE {
-        return merge(out, buffer, at, s, l.list, l.places);
-    }
-    asked(out, buffer, at, s, l)
-}
 
-// Makes the call of a line that is not empty on the voice, and answers it.
-pub fn turned(
-    line: &mut [i32; 2112],
-    head: Head,
-    out: Out,
-    buffer: &mut [u8; 4096],
-    at: usize,
-    s: &[u8],
-    l: Request,
-) -> Turn
-    requires { Valid head line.old × InLine (length s.now) l × (0 < l.kind) }
-    ensures { Valid result.head line.new }
-{
-    if l.kind == LOAD {
-        return reload(line, out, buffer, at, s, l);
+    // The answer to a line that asks to store the voice.
+    fn store(&self, out: &mut Printer, l: Request) {
+        let mut lent = [77u8; 32768];
+        let bytes = &mut lent[..l.places];
+        counted(out, store::store(&self.line, self.head, bytes));
+        out.hexes(bytes);
     }
-    if l.kind < BLOCK {
-        return called(line, head, out, buffer, at, l);
-    }
-    if l.kind == BLOCK {
-        return rendered(line, head, out, buffer, at, s, l);
-    }
-    Turn {
-        head: head,
-        at: told(line, head, out, buffer, at, s, l),
+
+    // Makes the call of a line that is not empty on the voice, and answers it.
+    pub fn call(&mut self, out: &mut Printer, l: Request) {
+        if let Some(call) = call_of(l) {
+            returned(out, call, self.change(call));
+            return;
+        }
+        match l.kind {
+            Kind::Open => out.number(code(self.open(opening_of(l)))),
+            Kind::Block => self.block(out, l),
+            Kind::Load => out.number(code(self.load(l))),
+            Kind::State => state(out, self.head),
+            Kind::Line => past(out, &self.line, self.head.at, l.places),
+            Kind::Store => self.store(out, l),
+            Kind::Panel => panel(out, l),
+            Kind::Run => run(out, l),
+            Kind::Merge => merge(out, l),
+            _ => asked(out, l),
+        }
     }
 }

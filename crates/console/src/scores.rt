@@ -1,0 +1,45 @@
+// Scores that a line lists, run and merged, and a stored voice on the panel, each called and printed behind the
+// line's name. A run's output is lent with 77 at each place, the bytes of a merge with 4d.
+use print::Printer;
+use refusal::code;
+use request::Request;
+use request::lists::{bytes_room, read_list};
+use request::pairs::two_lists;
+
+// The answer to a line that asks for a run.
+pub fn run(out: &mut Printer, l: Request) {
+    let mut room = bytes_room();
+    let score = read_list(l.list, &mut room).unwrap_or(&[]);
+    let mut lent = [77i32; 32768];
+    let output = &mut lent[..l.places];
+    let r = score::run(score, output);
+    out.number(r.refusal);
+    out.number(r.place as u64);
+    out.number(r.written as u64);
+    out.samples(output);
+}
+
+// The answer to a line that asks for a merge.
+pub fn merge(out: &mut Printer, l: Request) {
+    let (first, second) = two_lists(l.list).unwrap_or((&[], &[]));
+    let mut first_room = bytes_room();
+    let one = read_list(first, &mut first_room).unwrap_or(&[]);
+    let mut second_room = bytes_room();
+    let other = read_list(second, &mut second_room).unwrap_or(&[]);
+    let mut lent = [77u8; 32768];
+    let bytes = &mut lent[..l.places];
+    let r = merge::merge(one, other, bytes);
+    out.number(r.refusal);
+    out.number(r.length as u64);
+    out.hexes(bytes);
+}
+
+// The answer to a line that asks for the panel.
+pub fn panel(out: &mut Printer, l: Request) {
+    let mut room = bytes_room();
+    let answer = load::panel(read_list(l.list, &mut room).unwrap_or(&[]));
+    match answer {
+        Ok(shown) => out.numbers(&[0, shown.length, shown.delay, shown.loss]),
+        Err(refusal) => out.numbers(&[refusal.number(), 1, 4_096, 0]),
+    }
+}
