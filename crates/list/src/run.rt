@@ -35,6 +35,7 @@ pub fn run(
 {
     let mut used = 0;
     let mut written = 0;
+    // k counts by hand: by chunks_exact(4) and zip each call is a slice that has to be taken apart again.
     let mut k = 0;
     while let [kind, a, b, c, rest @ ..] = words {
         let item = Item::read(*kind, *a, *b, *c).unwrap();
