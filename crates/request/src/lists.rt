@@ -49,7 +49,7 @@ fn sampled(s: &[u8]) -> bool {
 }
 
 // A text is a list of bytes.
-fn byted(s: &[u8]) -> bool {
+pub fn byted(s: &[u8]) -> bool {
     read_list(s, &mut bytes_room()).is_some()
 }
 
