@@ -1,10 +1,12 @@
 -- What reading a recording turns down, returns, and leaves in the lent slice: document 02, L1.
 -- Definitions alone. Assumes nothing.
-use Rattle.std.specs.Prelude.{Bool, true, false, cond, ◌&&◌, List, [], ◌∷◌, ◌++◌, ℕ, ◌*◌, ◌^◌, eqb, ltb, ℤ, length, drop}
+use Rattle.std.specs.Prelude.{Bool, true, false, cond, ◌&&◌, List, [], ◌∷◌, ◌++◌, ℕ, ◌*◌, ◌^◌, eqb, ltb, ℤ, length, drop, Result, Ok, Err}
+use Rattle.refusal.specs.declared.Refusal.{Refusal}
+use Rattle.refusal.specs.Numbers.{number_of}
 use Rattle.refusal.specs.Limits.{Limit, refusal}
 use Rattle.riff.specs.Format.{riff_size, file}
 use Rattle.riff.specs.Held.{rate_of, count_of, held_in, samples_of}
-use Rattle.wav.specs.declared.Recorded.{Recorded}
+use Rattle.wav.specs.declared.Recorded.{Recorded as Held}
 use Rattle.wav.specs.Written.{rated, roomy, given}
 
 -- ---- what reading turns down
@@ -32,6 +34,16 @@ unfoldable pub reading_number : List ℕ → ℕ → ℕ
 reading_number s room = refusal (read_limits s room)
 
 -- ---- what it gives
+-- what reading returns: its number, 0 for success, the rate, and the count of samples
+pub record Recorded : Type 0 where
+  pub refusal : ℕ
+  pub rate : ℕ
+  pub count : ℕ
+
+abbrev pub read_answer : Result Held Refusal → Recorded
+read_answer (Ok h) = record { refusal = 0; rate = h.rate; count = h.count }
+read_answer (Err r) = record { refusal = number_of r; rate = 0; count = 0 }
+
 -- "reading [returns] the rate and the count of samples"; "A refusal .. returns 0 for these"
 unfoldable pub recorded : List ℕ → ℕ → Recorded
 recorded s room =

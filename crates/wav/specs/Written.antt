@@ -1,10 +1,11 @@
 -- What writing a recording turns down, returns, and leaves in the lent slice: document 02, L1.
 -- Definitions alone. Assumes nothing.
-use Rattle.std.specs.Prelude.{cond, List, [], ◌∷◌, ◌++◌, ℕ, ◌+◌, ◌-◌, eqb, ℤ, length, drop}
+use Rattle.std.specs.Prelude.{cond, List, [], ◌∷◌, ◌++◌, ℕ, ◌+◌, ◌-◌, eqb, ℤ, length, drop, Result, Ok, Err}
+use Rattle.refusal.specs.declared.Refusal.{Refusal}
+use Rattle.refusal.specs.Numbers.{number_of}
 use Rattle.refusal.specs.Limits.{Limit, refusal}
 use Rattle.rule.specs.Tests.{loud}
 use Rattle.riff.specs.Format.{file_size, file}
-use Rattle.wav.specs.declared.Written.{Written}
 
 -- "17 rate outside 8,000 to 192,000"
 abbrev pub rated : ℕ → Limit
@@ -25,6 +26,15 @@ write_number fs xs room = refusal (write_limits fs xs room)
 -- x, and 0 where the number n is one of a refusal: "A refusal .. returns 0 for these"
 abbrev pub given : ℕ → ℕ → ℕ
 given n x = cond (eqb n 0) x 0
+
+-- what writing returns: its number, 0 for success, and the count of bytes
+pub record Written : Type 0 where
+  pub refusal : ℕ
+  pub count : ℕ
+
+abbrev pub write_answer : Result ℕ Refusal → Written
+write_answer (Ok n) = record { refusal = 0; count = n }
+write_answer (Err r) = record { refusal = number_of r; count = 0 }
 
 -- "Writing returns the count of bytes"
 unfoldable pub written : ℕ → List ℤ → ℕ → Written
