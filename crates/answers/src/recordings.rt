@@ -4,8 +4,10 @@ ghost use Rattle.std.specs.Prelude.{◌≤◌};
 ghost use Rattle.print.specs.Printer.{place};
 
 use print::Printer;
+use refusal::code;
 use request::Request;
 use request::lists::{bytes_room, read_list};
+use wav::Recorded;
 
 // The answer to a line that asks for a file.
 pub fn write(out: &mut Printer, l: Request)
@@ -16,9 +18,9 @@ pub fn write(out: &mut Printer, l: Request)
     let given = read_list(l.list, &mut room).unwrap_or(&[]);
     let mut lent = [77u8; 32768];
     let file = &mut lent[..l.places];
-    let w = wav::write(rate, given, file);
-    out.number(w.refusal);
-    out.number(w.count as u64);
+    let answer = wav::write(rate, given, file);
+    out.number(code(answer));
+    out.number(answer.unwrap_or(0) as u64);
     out.hexes(file);
 }
 
@@ -30,8 +32,9 @@ pub fn read(out: &mut Printer, l: Request)
     let given = read_list(l.list, &mut room).unwrap_or(&[]);
     let mut lent = [77i32; 32768];
     let samples = &mut lent[..l.places];
-    let w = wav::read(given, samples);
-    out.numbers(&[w.refusal, w.rate]);
+    let answer = wav::read(given, samples);
+    let w = answer.unwrap_or(Recorded { rate: 0, count: 0 });
+    out.numbers(&[code(answer), w.rate]);
     out.number(w.count as u64);
     out.samples(samples);
 }
