@@ -13,7 +13,7 @@ pub fn run(out: &mut Printer, l: Request) {
     let mut lent = [77i32; 32768];
     let output = &mut lent[..l.places];
     let r = score::run(score, output);
-    out.number(r.refusal);
+    out.number(code(r.answer));
     out.number(r.place as u64);
     out.number(r.written as u64);
     out.samples(output);
@@ -28,9 +28,9 @@ pub fn merge(out: &mut Printer, l: Request) {
     let other = read_list(second, &mut second_room).unwrap_or(&[]);
     let mut lent = [77u8; 32768];
     let bytes = &mut lent[..l.places];
-    let r = merge::merge(one, other, bytes);
-    out.number(r.refusal);
-    out.number(r.length as u64);
+    let answer = merge::merge(one, other, bytes);
+    out.number(code(answer));
+    out.number(answer.unwrap_or(0) as u64);
     out.hexes(bytes);
 }
 

@@ -13,18 +13,10 @@ fn stored(out: &mut Printer, s: State) {
     out.signed(s.v3);
 }
 
-// 1 for an announced change, 2 for one that was asked for.
-fn number(kind: Kind) -> u32 {
-    match kind {
-        Kind::Announced => 1,
-        Kind::Asked => 2,
-    }
-}
-
 // A change that waits: its kind, its N, L and d, how many samples it has taken, and its state.
 fn change(out: &mut Printer, kind: Kind, e: Filter, taken: u32) {
     let to = e.tuning;
-    out.numbers(&[number(kind), to.order, to.length, to.delay, taken]);
+    out.numbers(&[kind.number(), to.order, to.length, to.delay, taken]);
     stored(out, e.state);
 }
 

@@ -14,7 +14,7 @@ use Rattle.list.specs.Words.{calls, formed}
 use Rattle.list.specs.Performed.{performed, output_after, numbers_after}
 use Rattle.list.specs.Live.{Run, Equal}
 use Rattle.rule.specs.Live.{announcing, living}
-use Rattle.score.specs.declared.Played.{Played}
+use Rattle.score.specs.Played.{Played}
 use Rattle.score.specs.Run.{opening}
 use Rattle.score.specs.Listed.{Listed}
 use Rattle.instances.specs.Live.{two, loud, bass, between, zeros}

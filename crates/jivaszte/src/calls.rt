@@ -16,6 +16,10 @@ ghost use Rattle.packed.specs.Words.{head_of};
 ghost use Rattle.kept.specs.Lent.{answer_of, opened_of};
 ghost use Rattle.kept.specs.Awaited.{awaited};
 
+use open::Opening;
+use refusal::code;
+use voice::{Pluck, Tuning};
+
 // Opens a voice, whatever the memory held: a refused opening leaves the refusal voice.
 pub fn jivaszte_packed_open(
     head: &mut [u32; 27],
@@ -29,7 +33,20 @@ pub fn jivaszte_packed_open(
     ensures { Opens (record { N = order; L = length; d = delay; G = loss; Na = advance })
         (opened_of result head.new line.new) }
 {
-    kept::open_voice(head, line, order, length, delay, loss, advance)
+    let tuning = Tuning {
+        order,
+        length,
+        delay,
+    };
+    code(kept::open_voice(
+        head,
+        line,
+        Opening {
+            tuning,
+            loss,
+            advance,
+        },
+    ))
 }
 
 // Sets the loss.
@@ -37,7 +54,7 @@ pub fn jivaszte_packed_loss(head: &mut [u32; 27], g: u32) -> u32
     requires { Fit (head_of head.old) }
     ensures { Called (head_of head.old) (Loss g) (answer_of result head.new) }
 {
-    kept::set_loss(head, g)
+    code(kept::set_loss(head, g))
 }
 
 // Starts a pluck in place of the rest of the old one.
@@ -45,7 +62,12 @@ pub fn jivaszte_packed_pluck(head: &mut [u32; 27], amplitude: u32, count: u32, s
     requires { Fit (head_of head.old) }
     ensures { Called (head_of head.old) (Plucking amplitude count seed) (answer_of result head.new) }
 {
-    kept::pluck(head, amplitude, count, seed)
+    let p = Pluck {
+        amplitude,
+        left: count,
+        noise: seed,
+    };
+    code(kept::pluck(head, p))
 }
 
 // Announces a change, which takes effect after as many samples as the advance.
@@ -53,7 +75,12 @@ pub fn jivaszte_packed_announce(head: &mut [u32; 27], order: u32, length: u32, d
     requires { Fit (head_of head.old) }
     ensures { Called (head_of head.old) (Announce (tuning order length delay)) (answer_of result head.new) }
 {
-    kept::changes::announce(head, order, length, delay)
+    let to = Tuning {
+        order,
+        length,
+        delay,
+    };
+    code(kept::changes::announce(head, to))
 }
 
 // Changes at once; count is how many samples of the line the eliminator was run over.
@@ -72,7 +99,14 @@ pub fn jivaszte_packed_instant(
         ≡ Count (voice_of (head_of head.old))
         (back (ring (head_of head.old).at line.now)) (Instant (tuning order length delay)) }
 {
-    kept::changes::instant(head, line, order, length, delay, count)
+    let to = Tuning {
+        order,
+        length,
+        delay,
+    };
+    let answer = kept::changes::instant(head, line, to);
+    *count = answer.unwrap_or(0);
+    code(answer)
 }
 
 // Asks for a change, which takes effect when it is committed.
@@ -80,7 +114,12 @@ pub fn jivaszte_packed_ask(head: &mut [u32; 27], order: u32, length: u32, delay:
     requires { Fit (head_of head.old) }
     ensures { Called (head_of head.old) (Ask (tuning order length delay)) (answer_of result head.new) }
 {
-    kept::changes::ask(head, order, length, delay)
+    let to = Tuning {
+        order,
+        length,
+        delay,
+    };
+    code(kept::changes::ask(head, to))
 }
 
 // Puts the change that was asked for in force, before the next sample.
@@ -88,7 +127,7 @@ pub fn jivaszte_packed_commit(head: &mut [u32; 27]) -> u32
     requires { Fit (head_of head.old) }
     ensures { Called (head_of head.old) Commit (answer_of result head.new) }
 {
-    kept::changes::commit(head)
+    code(kept::changes::commit(head))
 }
 
 // Drops the change that was asked for.
@@ -96,7 +135,7 @@ pub fn jivaszte_packed_withdraw(head: &mut [u32; 27]) -> u32
     requires { Fit (head_of head.old) }
     ensures { Called (head_of head.old) Withdraw (answer_of result head.new) }
 {
-    kept::changes::withdraw(head)
+    code(kept::changes::withdraw(head))
 }
 
 // A block: an output for each input.
@@ -114,7 +153,7 @@ pub fn jivaszte_packed_block(
         ≡ lent (head_of head.old) line.old
         (Block input.now (length output.old)) output.old }
 {
-    kept::blocks::feed(head, line, input, output)
+    code(kept::blocks::feed(head, line, input, output))
 }
 
 // A block of zeros, as long as the output: no input is read.
@@ -128,7 +167,8 @@ pub fn jivaszte_packed_play(head: &mut [u32; 27], line: &mut [i32; 2112], output
         (Block (replicate (length output.old) (pos 0)) (length output.old))
         output.old }
 {
-    kept::blocks::play(head, line, output)
+    kept::blocks::play(head, line, output);
+    0
 }
 
 // How many samples an announced change still takes, or an asked one until its commit is accepted; 0 where
@@ -145,5 +185,9 @@ pub fn jivaszte_packed_check(head: &[u32; 27], line: &[i32; 2112]) -> u32
     ensures upper_bound { result ≤ 1 }
     ensures variant { (result ≡ 1) ↔ Valid (head_of head.now) line.now }
 {
-    kept::checks::check(head, line)
+    if kept::checks::check(head, line) {
+        1
+    } else {
+        0
+    }
 }

@@ -9,16 +9,22 @@ ghost use Rattle.frames.specs.Frames.{Framed};
 
 use events::Event;
 use floats::frame::Frame;
+use pitch::Parts;
+use refusal::code;
 
 // L and d of a delay in samples.
 pub fn jivaszte_split(order: u32, samples: f32, span: &mut u32, delay: &mut u32) -> u32
     ensures { record { refusal = result; length = span.new; delay = delay.new }
         ≡ split order samples }
 {
-    let p = floats::delay::split(order, samples);
+    let answer = floats::delay::split(order, samples);
+    let p = answer.unwrap_or(Parts {
+        length: 0,
+        delay: 0,
+    });
     *span = p.length;
     *delay = p.delay;
-    p.refusal
+    code(answer)
 }
 
 // A host's delay: an announced change on a string, its order kept.
@@ -26,7 +32,7 @@ pub fn jivaszte_strings_event_delay(heads: &mut [[u32; 27]; 6], string: u32, sam
     requires { Heads heads.old }
     ensures { Handled heads.old string (Delay samples) result heads.new }
 {
-    events::handle(heads, string, Event::Delay(samples))
+    code(events::handle(heads, string, Event::Delay(samples)))
 }
 
 // A host's loss on a string.
@@ -34,7 +40,7 @@ pub fn jivaszte_strings_event_loss(heads: &mut [[u32; 27]; 6], string: u32, loss
     requires { Heads heads.old }
     ensures { Handled heads.old string (Loss loss) result heads.new }
 {
-    events::handle(heads, string, Event::Loss(loss))
+    code(events::handle(heads, string, Event::Loss(loss)))
 }
 
 // One sample for all six strings, and one frame.
@@ -48,5 +54,10 @@ pub fn jivaszte_strings_frame(
     ensures { Framed heads.old lines.old sample number.new result
         heads.new lines.new }
 {
-    frames::frame(heads, lines, sample, number)
+    let answer = frames::frame(heads, lines, sample);
+    *number = code(answer);
+    answer.unwrap_or(Frame {
+        left: 0.0,
+        right: 0.0,
+    })
 }

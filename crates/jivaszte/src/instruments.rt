@@ -10,6 +10,10 @@ ghost use Rattle.instrument.specs.Strings.{on, opens, calls, mix as Mix, counted
 ghost use Rattle.instrument.specs.Strings.{store as Storing, load as Loading, number, lent};
 ghost use Rattle.strings.specs.Rows.{strings_of, Heads, Voices, Called, Played, Resets};
 
+use open::Opening;
+use refusal::code;
+use voice::{Pluck, Tuning};
+
 // Six strings, whatever the memory held: each is Open's refusal voice.
 pub fn jivaszte_strings_reset(heads: &mut [[u32; 27]; 6], lines: &mut [[i32; 2112]; 6])
     ensures { Resets heads.new lines.new }
@@ -33,7 +37,21 @@ pub fn jivaszte_strings_open(
         (on string (opens (record { N = order; L = length; d = delay; G = loss; Na = advance }))) result
         heads.new lines.new }
 {
-    strings::open_string(heads, lines, string, order, length, delay, loss, advance)
+    let tuning = Tuning {
+        order,
+        length,
+        delay,
+    };
+    code(strings::open_string(
+        heads,
+        lines,
+        string,
+        Opening {
+            tuning,
+            loss,
+            advance,
+        },
+    ))
 }
 
 // Sets the loss of a string.
@@ -41,7 +59,7 @@ pub fn jivaszte_strings_loss(heads: &mut [[u32; 27]; 6], string: u32, g: u32) ->
     requires { Heads heads.old }
     ensures { Called heads.old string (calls (Loss g)) result heads.new }
 {
-    strings::set_loss(heads, string, g)
+    code(strings::set_loss(heads, string, g))
 }
 
 // Starts a pluck on a string.
@@ -56,7 +74,12 @@ pub fn jivaszte_strings_pluck(
     ensures { Called heads.old string (calls (Plucking amplitude count seed)) result
         heads.new }
 {
-    strings::pluck(heads, string, amplitude, count, seed)
+    let p = Pluck {
+        amplitude,
+        left: count,
+        noise: seed,
+    };
+    code(strings::pluck(heads, string, p))
 }
 
 // Announces a change on a string.
@@ -71,7 +94,12 @@ pub fn jivaszte_strings_announce(
     ensures { Called heads.old string (calls (Announce (tuning order length delay))) result
         heads.new }
 {
-    strings::changes::announce(heads, string, order, length, delay)
+    let to = Tuning {
+        order,
+        length,
+        delay,
+    };
+    code(strings::changes::announce(heads, string, to))
 }
 
 // Changes a string at once; count is how many samples of its line the eliminator was run over.
@@ -92,7 +120,14 @@ pub fn jivaszte_strings_instant(
         ≡ counted (strings_of heads.old lines.now) string
         (calls (Instant (tuning order length delay))) }
 {
-    strings::changes::instant(heads, lines, string, order, length, delay, count)
+    let to = Tuning {
+        order,
+        length,
+        delay,
+    };
+    let answer = strings::changes::instant(heads, lines, string, to);
+    *count = answer.unwrap_or(0);
+    code(answer)
 }
 
 // Asks for a change on a string, which takes effect when it is committed.
@@ -107,7 +142,12 @@ pub fn jivaszte_strings_ask(
     ensures { Called heads.old string (calls (Ask (tuning order length delay))) result
         heads.new }
 {
-    strings::changes::ask(heads, string, order, length, delay)
+    let to = Tuning {
+        order,
+        length,
+        delay,
+    };
+    code(strings::changes::ask(heads, string, to))
 }
 
 // Puts the change that was asked for in force, before the next sample.
@@ -115,7 +155,7 @@ pub fn jivaszte_strings_commit(heads: &mut [[u32; 27]; 6], string: u32) -> u32
     requires { Heads heads.old }
     ensures { Called heads.old string (calls Commit) result heads.new }
 {
-    strings::changes::commit(heads, string)
+    code(strings::changes::commit(heads, string))
 }
 
 // Drops the change that was asked for.
@@ -123,7 +163,7 @@ pub fn jivaszte_strings_withdraw(heads: &mut [[u32; 27]; 6], string: u32) -> u32
     requires { Heads heads.old }
     ensures { Called heads.old string (calls Withdraw) result heads.new }
 {
-    strings::changes::withdraw(heads, string)
+    code(strings::changes::withdraw(heads, string))
 }
 
 // A block of all six strings: an output for each input.
@@ -141,7 +181,7 @@ pub fn jivaszte_strings_mix(
         ≡ mix_into (strings_of heads.old lines.old) input.now
         output.old }
 {
-    mix::mix(heads, lines, input, output)
+    code(mix::mix(heads, lines, input, output))
 }
 
 // A block of zeros of all six strings, as long as the output: no input is read.
@@ -158,7 +198,8 @@ pub fn jivaszte_strings_play(
         ≡ mix_into (strings_of heads.old lines.old)
         (replicate (length output.old) (pos 0)) output.old }
 {
-    mix::play(heads, lines, output)
+    mix::play(heads, lines, output);
+    0
 }
 
 // Stores a string in the bytes: how many they are is in length. 18 where there are fewer.
@@ -178,7 +219,9 @@ pub fn jivaszte_strings_store(
     ensures bytes_after { bytes.new
         ≡ lent (strings_of heads.now lines.now) string bytes.old }
 {
-    strings::stores::store(heads, lines, string, bytes, length)
+    let answer = strings::stores::store(heads, lines, string, bytes);
+    *length = answer.unwrap_or(0);
+    code(answer)
 }
 
 // Loads the voice that the bytes hold into a string.
@@ -192,5 +235,5 @@ pub fn jivaszte_strings_load(
     ensures { Played heads.old lines.old
         (on string (Loading bytes.now)) result heads.new lines.new }
 {
-    strings::stores::load(heads, lines, string, bytes)
+    code(strings::stores::load(heads, lines, string, bytes))
 }

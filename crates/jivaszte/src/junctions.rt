@@ -6,6 +6,7 @@ ghost use Rattle.tube.specs.Struct.{junction_of};
 ghost use Rattle.tube.specs.Valid.{Valid};
 ghost use Rattle.tube.specs.Words.{from_words};
 
+use refusal::code;
 use tube::memory::{pack, unpack};
 
 // Opens a junction, whatever the memory held.
@@ -23,11 +24,9 @@ pub fn jivaszte_junction_open(
     } ≡ open_answer (record { left = left; right = right; d = d; Na = advance }) }
     ensures valid { Valid (from_words junction.new) }
 {
-    let a = tube::open::open(left, right, d, advance);
-    let j = a.junction;
-    let w = pack(j);
-    *junction = w;
-    a.refusal
+    let o = tube::open::open(left, right, d, advance);
+    *junction = pack(o.junction);
+    code(o.answer)
 }
 
 // Announces a new delay.
@@ -40,12 +39,13 @@ pub fn jivaszte_junction_move(junction: &mut [u32; 16], d: u32) -> u32
     } ≡ answer (junction_of (from_words junction.old)) (Move d) }
     ensures valid { Valid (from_words junction.new) }
 {
-    let j = unpack(junction);
-    let a = tube::moves::start_move(j, d);
-    let k = a.junction;
-    let w = pack(k);
-    *junction = w;
-    a.refusal
+    match tube::moves::start_move(unpack(junction), d) {
+        Ok(j) => {
+            *junction = pack(j);
+            0
+        }
+        Err(refusal) => refusal.number(),
+    }
 }
 
 // One sample from each side.
@@ -64,14 +64,17 @@ pub fn jivaszte_junction_sample(
     } ≡ answer (junction_of (from_words junction.old)) (Sample (record { a = a; b = b })) }
     ensures valid { Valid (from_words junction.new) }
 {
-    let j = unpack(junction);
-    let s = tube::sample::sample(j, a, b);
-    let k = s.junction;
-    let w = pack(k);
-    *junction = w;
-    let x = s.right.n;
-    let y = s.left.n;
-    *right = x;
-    *left = y;
-    s.refusal
+    match tube::sample::sample(unpack(junction), a, b) {
+        Ok(s) => {
+            *junction = pack(s.junction);
+            *right = s.right;
+            *left = s.left;
+            0
+        }
+        Err(refusal) => {
+            *right = 0;
+            *left = 0;
+            refusal.number()
+        }
+    }
 }

@@ -16,6 +16,14 @@ ghost use Rattle.timeline.specs.Answered.{Answered};
 ghost use Rattle.wav.specs.Written.{written, left};
 ghost use Rattle.wav.specs.Recorded.{recorded, filled};
 
+use list::Performed;
+use open::Opening;
+use pitch::Parts;
+use refusal::code;
+use thiran::Taps;
+use voice::Tuning;
+use wav::Recorded;
+
 pub mod calls;
 pub mod hosts;
 pub mod instruments;
@@ -31,32 +39,34 @@ pub fn jivaszte_coefficients(order: u32, d: u32, a1: &mut i32, a2: &mut i32, a3:
       a3 = a3.new;
     } ≡ design order d }
 {
-    let c = thiran::coefficients(order, d);
-    let x = c.a1;
-    let y = c.a2;
-    let z = c.a3;
-    *a1 = x;
-    *a2 = y;
-    *a3 = z;
-    c.refusal
+    let answer = thiran::coefficients(order, d);
+    let c = answer.unwrap_or(Taps {
+        a1: 0,
+        a2: 0,
+        a3: 0,
+    });
+    *a1 = c.a1;
+    *a2 = c.a2;
+    *a3 = c.a3;
+    code(answer)
 }
 
 // The index of the last value of the eliminator's response that exceeds the threshold, plus one.
 pub fn jivaszte_effective_length(order: u32, d: u32, threshold: u32, effective: &mut u32) -> u32
     ensures { record { refusal = result; length = effective.new } ≡ effective_length order d threshold }
 {
-    let m = allpass::effective_length(order, d, threshold);
-    *effective = m.length;
-    m.refusal
+    let answer = allpass::effective_length(order, d, threshold);
+    *effective = answer.unwrap_or(0);
+    code(answer)
 }
 
 // The least advance with which each sample after a change to an order and a delay is at most `wanted` from the ideal.
 pub fn jivaszte_least_advance(order: u32, d: u32, wanted: u32, advance: &mut u32) -> u32
     ensures { record { refusal = result; na = advance.new } ≡ least_advance order d wanted }
 {
-    let f = advance::least(order, d, wanted);
-    *advance = f.na;
-    f.refusal
+    let answer = advance::least(order, d, wanted);
+    *advance = answer.unwrap_or(0);
+    code(answer)
 }
 
 // L and d of a note at a rate.
@@ -64,10 +74,14 @@ pub fn jivaszte_note(order: u32, rate: u32, note: u32, span: &mut u32, delay: &m
     ensures { record { refusal = result; length = span.new; delay = delay.new }
         ≡ pitch order rate note }
 {
-    let p = pitch::note(order, rate, note);
+    let answer = pitch::note(order, rate, note);
+    let p = answer.unwrap_or(Parts {
+        length: 0,
+        delay: 0,
+    });
     *span = p.length;
     *delay = p.delay;
-    p.refusal
+    code(answer)
 }
 
 // One draw on the noise state that is lent.
@@ -119,12 +133,23 @@ pub fn jivaszte_perform(
         output.new
         numbers.new }
 {
-    let p = list::perform(
-        order, span, delay, loss, advance, words, input, output, numbers,
-    );
-    *opening = p.opening;
+    let asked = Opening {
+        tuning: Tuning {
+            order,
+            length: span,
+            delay,
+        },
+        loss,
+        advance,
+    };
+    let answer = list::perform(asked, words, input, output, numbers);
+    let p = answer.unwrap_or(Performed {
+        opening: Ok(()),
+        written: 0,
+    });
+    *opening = code(p.opening);
     *written = p.written;
-    p.refusal
+    code(answer)
 }
 
 // The run of a score.
@@ -136,7 +161,7 @@ pub fn jivaszte_run(score: &[u8], output: &mut [i32], place: &mut usize, written
     let p = score::run(score, output);
     *place = p.place;
     *written = p.written;
-    p.refusal
+    code(p.answer)
 }
 
 // Merges two scores into the bytes lent.
@@ -144,9 +169,9 @@ pub fn jivaszte_merge(first: &[u8], second: &[u8], bytes: &mut [u8], length: &mu
     ensures { Answered first.now second.now bytes.old result
         length.new bytes.new }
 {
-    let m = merge::merge(first, second, bytes);
-    *length = m.length;
-    m.refusal
+    let answer = merge::merge(first, second, bytes);
+    *length = answer.unwrap_or(0);
+    code(answer)
 }
 
 // Writes samples at a rate as a WAV file.
@@ -155,9 +180,9 @@ pub fn jivaszte_wav_write(rate: u32, samples: &[i32], file: &mut [u8], count: &m
         ≡ written rate samples.now (length file.old) }
     ensures file_after { file.new ≡ left rate samples.now file.old }
 {
-    let w = wav::write(rate, samples, file);
-    *count = w.count;
-    w.refusal
+    let answer = wav::write(rate, samples, file);
+    *count = answer.unwrap_or(0);
+    code(answer)
 }
 
 // Reads the samples of a WAV file, and its rate.
@@ -166,10 +191,11 @@ pub fn jivaszte_wav_read(file: &[u8], samples: &mut [i32], rate: &mut u32, count
         ≡ recorded file.now (length samples.old) }
     ensures samples_after { samples.new ≡ filled file.now samples.old }
 {
-    let r = wav::read(file, samples);
+    let answer = wav::read(file, samples);
+    let r = answer.unwrap_or(Recorded { rate: 0, count: 0 });
     *rate = r.rate;
     *count = r.count;
-    r.refusal
+    code(answer)
 }
 
 // The version, which header and program have too: 0.1.0 is 100, and 1.2.3 would be 10,203.

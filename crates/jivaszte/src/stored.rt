@@ -5,6 +5,16 @@ ghost use Rattle.packed.specs.Words.{head_of};
 ghost use Rattle.store.specs.Stores.{Stores};
 ghost use Rattle.load.specs.Loaded.{Loads, Shows};
 
+use load::Shown;
+use refusal::code;
+
+// What the panel shows of Open's refusal voice.
+const REFUSED: Shown = Shown {
+    length: 1,
+    delay: 4_096,
+    loss: 0,
+};
+
 // Stores a voice in the bytes.
 pub fn jivaszte_packed_store(
     head: &[u32; 27],
@@ -16,7 +26,9 @@ pub fn jivaszte_packed_store(
     ensures { Stores (state_of (head_of head.now) line.now) bytes.old
         bytes.new (record { refusal = result; length = length.new }) }
 {
-    snapshot::store(head, line, bytes, length)
+    let answer = snapshot::store(head, line, bytes);
+    *length = answer.unwrap_or(0);
+    code(answer)
 }
 
 // Loads a voice, whatever the memory held; by a refusal Open's refusal voice.
@@ -24,7 +36,7 @@ pub fn jivaszte_packed_load(head: &mut [u32; 27], line: &mut [i32; 2112], bytes:
     ensures { Loads bytes.now (record { refusal = result; head = head_of head.new })
         line.new }
 {
-    snapshot::load(head, line, bytes)
+    code(snapshot::load(head, line, bytes))
 }
 
 // Length, delay and loss of a stored voice.
@@ -36,9 +48,10 @@ pub fn jivaszte_panel(bytes: &[u8], span: &mut u32, delay: &mut u32, loss: &mut 
       loss = loss.new;
     }) }
 {
-    let p = load::panel(bytes);
-    *span = p.length;
-    *delay = p.delay;
-    *loss = p.loss;
-    p.refusal
+    let answer = load::panel(bytes);
+    let n = answer.unwrap_or(REFUSED);
+    *span = n.length;
+    *delay = n.delay;
+    *loss = n.loss;
+    code(answer)
 }

@@ -21,14 +21,6 @@ mod walk;
 
 use walk::walk;
 
-// What a merge returns: its refusal, and how many bytes it has.
-// A number and not a Result: C gets this struct by value.
-#[derive(Clone, Copy)]
-pub struct MergeEnd {
-    pub refusal: u32,
-    pub length: usize,
-}
-
 // A score on the way: where its next record starts, the samples since its last one, and its course.
 // A place and not the bytes behind it: both scores are lent beside it, and a turn changes the place alone.
 #[derive(Clone, Copy)]
@@ -103,8 +95,8 @@ fn put_header(out: &mut [u8], s: &[u8])
     out[..8].copy_from_slice(&s[..8]);
 }
 
-// The length of the merge of two scores, which is put into the bytes lent.
-fn put_merge(first: &[u8], second: &[u8], bytes: &mut [u8]) -> Result<usize, Refusal>
+// Merges two scores into the bytes lent, and returns how many bytes the merge has.
+pub fn merge(first: &[u8], second: &[u8], bytes: &mut [u8]) -> Result<usize, Refusal>
     ensures { Answered first.now second.now bytes.old
         (code_of result) (length_of result) bytes.new }
 {
@@ -133,16 +125,4 @@ fn put_merge(first: &[u8], second: &[u8], bytes: &mut [u8]) -> Result<usize, Ref
     )?;
     put_header(bytes, first);
     walk(o.tuning.order, o.advance, start, first, second, bytes, true)
-}
-
-// Merges two scores into the bytes lent.
-pub fn merge(first: &[u8], second: &[u8], bytes: &mut [u8]) -> MergeEnd
-    ensures { Answered first.now second.now bytes.old
-        result.refusal result.length bytes.new }
-{
-    let merged = put_merge(first, second, bytes);
-    MergeEnd {
-        refusal: code(merged),
-        length: merged.unwrap_or(0),
-    }
 }

@@ -7,7 +7,7 @@ ghost use Rattle.noise.specs.Noise.{next as Next, value, drawn};
 
 use integer::wrapping_mul_u32;
 
-// C gets this struct by value.
+// What a draw gives: the value, and the state after it.
 #[derive(Clone, Copy)]
 pub struct Drawn {
     pub value: i32,

@@ -5,12 +5,13 @@
 
 use input::full;
 use print::{Out, Printer};
+use refusal::code;
 use score::Played;
 
 // The last line: `end`, number, place, samples.
 fn end(out: &mut Printer, r: Played) {
     out.bytes(b"end");
-    out.number(r.refusal);
+    out.number(code(r.answer));
     out.number(r.place as u64);
     out.number(r.written as u64);
     out.bytes(b"\n");

@@ -10,7 +10,7 @@ use lib.ListN.{length, get_or, drop}
 use lib.Seq.{get_or-drop}
 use Rattle.rule.specs.State.{State}
 use Rattle.record.specs.Record.{bit, map_of, before, word, present, field}
-use Rattle.score.specs.declared.Played.{Played}
+use Rattle.score.specs.Played.{Played}
 use Rattle.score.specs.Played.{Runs}
 use Rattle.score.specs.Reached.{size, waited, Reached, first, later}
 use Rattle.score.specs.Ends.{HeaderRefused, RecordRefused, LossRefused, ChangeRefused, PluckRefused}

@@ -11,7 +11,7 @@ use Rattle.refusal.specs.Limits.{Limit, refusal}
 use Rattle.refusal.proofs.Returned.{here, past, kept-is, is-met}
 use Rattle.rule.specs.Calls.{open_limits}
 use Rattle.rule.specs.State.{fresh}
-use Rattle.score.specs.declared.Played.{Played}
+use Rattle.score.specs.Played.{Played}
 use Rattle.score.specs.Run.{ends, opening, header_limits, run}
 use Rattle.score.specs.Played.{PlaysAll, Runs}
 use Rattle.score.proofs.Playing.{plays_as}

@@ -6,7 +6,7 @@ use Rattle.refusal.specs.Limits.{Between}
 use Rattle.rule.specs.State.{State}
 use Rattle.record.specs.Record.{map_of, field}
 use Rattle.record.specs.Returns.{IllFormed}
-use Rattle.score.specs.declared.Played.{Played}
+use Rattle.score.specs.Played.{Played}
 use Rattle.score.specs.Reached.{OrderIn, LengthIn, DelayIn, LossIn, AdvanceIn, Has, size}
 use Rattle.score.specs.Reached.{Readable, waited, SetsLoss, Given, AsksChange, Delayed, MakesChange}
 use Rattle.score.specs.Reached.{Reached}

@@ -5,7 +5,7 @@ use Rattle.rule.specs.Calls.{Call}
 use Rattle.rule.specs.State.{fresh, puts}
 use Rattle.rule.specs.Click.{Click}
 use Rattle.rule.specs.OwnFigure.{OwnClick}
-use Rattle.score.specs.declared.Played.{Played}
+use Rattle.score.specs.Played.{Played}
 use Rattle.score.specs.Run.{opening, run}
 
 -- the run of the score s over a lent output, which returned r and left the output as after

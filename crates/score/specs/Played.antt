@@ -1,10 +1,20 @@
 -- What the parts of a run, and the run itself, return and leave: the calls of specs/Run.antt on the voice.
 -- Definitions alone. Assumes nothing.
 use Rattle.std.specs.Prelude.{◌≡◌, List, ℕ, ℤ, length}
+use Rattle.refusal.specs.Numbers.{code_of}
 use Rattle.samples.specs.Samples.{over}
 use Rattle.rule.specs.State.{State, puts, fresh}
-use Rattle.score.specs.declared.Played.{Played}
+use Rattle.score.specs.declared.Played.{Played as Returned}
 use Rattle.score.specs.Run.{Outcome, all_records, opening, run}
+
+-- what a run returns: its number, 0 for success, its place, and how many samples it wrote
+pub record Played : Type 0 where
+  pub refusal : ℕ
+  pub place : ℕ
+  pub written : ℕ
+
+abbrev pub played : Returned → Played
+played r = record { refusal = code_of r.answer; place = r.place; written = r.written }
 
 -- the outcome o of calls on the voice v, on a lent output that is left as after
 pub record Plays (o : Outcome) (v : State) (output : List ℤ) (r : Played) (after : List ℤ) : Type 0 where

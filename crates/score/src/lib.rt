@@ -10,20 +10,19 @@ ghost use Rattle.voice.specs.Valid.{Valid};
 ghost use Rattle.record.specs.Record.{fields};
 ghost use Rattle.score.specs.Run.{play_limits};
 ghost use Rattle.score.specs.Opened.{Reads};
-ghost use Rattle.score.specs.Played.{PlaysAll, Runs};
+ghost use Rattle.score.specs.Played.{played, PlaysAll, Runs};
 
 use follow::changes::started;
 use loops::carried::after;
 use open::Opening;
 use record::{WAIT, read_record, word};
-use refusal::{Refusal, code};
+use refusal::Refusal;
 use voice::{Head, Kind, Tuning, settle};
 
-// What a run returns: its number, its place, and how many samples it wrote.
-// A number and not a Result: C gets this struct by value.
+// What a run returns: its answer, its place, and how many samples it wrote. A run that is refused has these too.
 #[derive(Clone, Copy)]
 pub struct Played {
-    pub refusal: u32,
+    pub answer: Result<(), Refusal>,
     pub place: usize,
     pub written: usize,
 }
@@ -124,7 +123,7 @@ fn follow_all(score: &[u8], output: &mut [i32], progress: &mut Progress) -> Resu
 
 // The run of a score, over an output that it is lent.
 pub fn run(score: &[u8], output: &mut [i32]) -> Played
-    ensures { Runs score.now output.old result output.new }
+    ensures { Runs score.now output.old (played result) output.new }
 {
     let mut progress = Progress {
         place: 0,
@@ -132,7 +131,7 @@ pub fn run(score: &[u8], output: &mut [i32]) -> Played
     };
     let answer = follow_all(score, output, &mut progress);
     Played {
-        refusal: code(answer),
+        answer,
         place: progress.place,
         written: progress.written,
     }

@@ -14,21 +14,10 @@ ghost use Rattle.strings.specs.Rows.{Heads, Voices, RowOf, Called, Played, Reset
 use open::Opening;
 use packed::pack;
 use refusal::{Refusal, within};
-use voice::{Pluck, Tuning};
+use voice::Pluck;
 
 pub mod changes;
 pub mod stores;
-
-// What is refused: the strings that a reset leaves are opened with it.
-const NOTHING: Opening = Opening {
-    tuning: Tuning {
-        order: 0,
-        length: 0,
-        delay: 0,
-    },
-    loss: 0,
-    advance: 0,
-};
 
 // The row of a string: 24 where there is no such string.
 fn row(string: u32) -> Result<usize, Refusal>
@@ -75,9 +64,9 @@ pub fn pluck(heads: &mut [[u32; 27]; 6], string: u32, pluck: Pluck) -> Result<()
 pub fn reset(heads: &mut [[u32; 27]; 6], lines: &mut [[i32; 2112]; 6])
     ensures { Resets heads.new lines.new }
 {
-    let opened = open::open(NOTHING);
-    let head = pack(opened.voice.head);
-    let line = opened.voice.line;
+    let voice = open::refusal_voice();
+    let head = pack(voice.head);
+    let line = voice.line;
     *heads = [head; 6];
     *lines = [line; 6];
 }

@@ -11,7 +11,7 @@ use Rattle.refusal.specs.Numbers.{number_of, code_of}
 use Rattle.refusal.proofs.Numbers.{refused-above}
 use Rattle.rule.specs.Calls.{Opening, open_limits}
 use Rattle.rule.specs.State.{State, fresh}
-use Rattle.score.specs.declared.Played.{Played}
+use Rattle.score.specs.Played.{Played}
 use Rattle.score.specs.Run.{opening}
 use Rattle.score.specs.Played.{PlaysAll}
 use borrow.Author.Rules.{part_to_end}

@@ -36,20 +36,31 @@ answer-small j x =
 fits : (z y : ℤ) → z ≡ y → nat_abs y ≤ M → SFits w32 z
 fits z y e h = rw e (abs_fits w32 y (omega (arith, h)))
 
-pub sample-s-requires : goal.sample-s-requires
-sample-s-requires c = rw c.unpack-j.ensures c.requires
+pub sample-requires : goal.sample-requires
+sample-requires c = rw c.unpack.ensures c.requires
 
-pub returns : goal.returns
-returns c =
-    let s = c.sample-s in
-    let j = junction_of c.unpack-j.result in
+pub pack-requires : goal.pack-requires
+pack-requires c = (rw c.in-Ok.is at c.sample.ensures).1
+
+pub returns-in-Ok : goal.returns-in-Ok
+returns-in-Ok c =
+    let s = c.in-Ok.s in
+    let j = junction_of c.unpack.result in
     let x : Two ℤ = record { a = c.args.a; b = c.args.b } in
-    let e = rw (to_z-of_z c.ranges.a, to_z-of_z c.ranges.b) at s.ensures in
+    let e = rw (c.in-Ok.is, to_z-of_z c.ranges.a, to_z-of_z c.ranges.b) at c.sample.ensures in
     let w = answer-small j x in
     let o = (answer j (sample x)).outputs in
-    let right = fits s.result.right.n o.right (ap (λ (k : Answer). k.outputs.right) e.0) w.0 in
-    let left = fits s.result.left.n o.left (ap (λ (k : Answer). k.outputs.left) e.0) w.1 in
+    let right = fits s.right o.right (ap (λ (k : Answer). k.outputs.right) e.0) w.0 in
+    let left = fits s.left o.left (ap (λ (k : Answer). k.outputs.left) e.0) w.1 in
     record {
-      junction_after = rw (to_z-of_z right, to_z-of_z left, ← c.unpack-j.ensures, c.pack-w.ensures) e.0;
-      valid = rw c.pack-w.ensures e.1;
+      junction_after = rw (to_z-of_z right, to_z-of_z left, ← c.unpack.ensures, c.pack.ensures) e.0;
+      valid = rw c.pack.ensures e.1;
+    }
+
+pub returns-in-Err : goal.returns-in-Err
+returns-in-Err c =
+    let e = rw (c.in-Err.is, to_z-of_z c.ranges.a, to_z-of_z c.ranges.b) at c.sample.ensures in
+    record {
+      junction_after = rw (c.number.ensures, ← c.unpack.ensures) e.0;
+      valid = c.requires;
     }

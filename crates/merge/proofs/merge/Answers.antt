@@ -1,4 +1,4 @@
--- `merge::put_merge` meets its contract: 28, 29, 30, in that order, or the merge.
+-- `merge::merge` meets its contract: 28, 29, 30, in that order, or the merge.
 use Rattle.std.proofs.Common.{false, true, rules}
 use Rattle.std.specs.Prelude.{Result, Ok, Err}
 use mathlib.Core.Path.{◌≡◌, refl, sym, ap, subst, ◌∙◌}
@@ -18,10 +18,10 @@ use Rattle.timeline.specs.Theorems.{Plays}
 use Rattle.timeline.proofs.Merging.{ended, eight}
 use Rattle.merge.specs.Walk.{Walks}
 use Rattle.merge.proofs.Answering.{not-alone, not-merged, plays, plays-not, short, header-same, first_stops, second_walk, walk_ready, walk_is}
-use Rattle.merge.proofs.put_merge.Goals as goal
-use Rattle.merge.proofs.put_merge.Lts as lts
-use Rattle.merge.proofs.put_merge.Reads as reads
-use Rattle.merge.proofs.put_merge.Tie as tie
+use Rattle.merge.proofs.merge.Goals as goal
+use Rattle.merge.proofs.merge.Lts as lts
+use Rattle.merge.proofs.merge.Reads as reads
+use Rattle.merge.proofs.merge.Tie as tie
 
 -- ---- both scores end alone
 module _ (c : (lts.Else3 tie.the-claims reads.Pre reads.Post tie.handed_clauses)) where
