@@ -1,5 +1,5 @@
 -- One call more in a list of them, and the kind that a line's first word names.
-use Rattle.std.proofs.Common.{◌≡◌, sym, subst, ◌∙◌, ℕ, suc, ◌+◌, List, [], ◌∷◌, ◌++◌, arith}
+use Rattle.std.proofs.Common.{◌≡◌, subst, ℕ, suc, ◌+◌, List, [], ◌∷◌, ◌++◌, arith}
 use Rattle.print.specs.declared.Printer.{Printer}
 use Rattle.print.specs.Printer.{Prints, PrintsEach}
 use Rattle.print.proofs.Printers.{each_more}

@@ -10,7 +10,6 @@ use borrow.Author.Count.{below_more}
 use lib.Dec.{eqb}
 use lib.ListN.{length}
 use mathlib.Core.Bool.{false≢true}
-use Rattle.request.specs.declared.kinds.Kind.{Kind}
 use Rattle.request.specs.declared.kinds.Kind.TheVariants.{Empty}
 use Rattle.request.specs.declared.kinds.TheConstants.{CALLS}
 use Rattle.request.specs.Kinds.{number_of}

@@ -1,5 +1,5 @@
 -- What a line asks stands in the line, and a request with no list stands in each.
-use Rattle.std.proofs.Common.{◌≡◌, ℕ, ◌+◌, ◌-◌, ◌≤◌, List, [], length, drop, sym, ap, ◌∙◌, subst, arith, IfSome, Some, None, Option, unwrap_or, length-drop}
+use Rattle.std.proofs.Common.{◌≡◌, ℕ, ◌+◌, ◌-◌, List, [], length, drop, sym, ap, ◌∙◌, subst, arith, IfSome, Some, None, Option, unwrap_or, length-drop}
 use Rattle.std.proofs.lemmas.List.{drop-drop, drop_all}
 use Rattle.request.specs.declared.Request.{Request}
 use Rattle.request.specs.InLine.{InLine}

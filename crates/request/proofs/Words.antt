@@ -1,5 +1,5 @@
 -- What the words of a text spell: none where no word is left, and one more behind those that were read.
-use Rattle.std.proofs.Common.{◌≡◌, Bool, true, refl, sym, ap, ◌∙◌, subst, ℕ, ◌+◌, ◌<◌, ◌≤◌, List, [], ◌∷◌, ◌++◌, length, take, get_or, Option, Some, None, arith, append_assoc}
+use Rattle.std.proofs.Common.{◌≡◌, sym, ap, ◌∙◌, subst, ℕ, ◌+◌, ◌<◌, List, [], ◌∷◌, ◌++◌, length, take, Option, append_assoc}
 use Rattle.std.proofs.lemmas.List.{append-nil, take_more_set, nil_from_length}
 use lib.ListN.{set}
 use Rattle.request.specs.Rest.{Split, Spelt, Spells, Ended, none, more}
