@@ -13,8 +13,8 @@ pub record Played : Type 0 where
   pub place : ℕ
   pub written : ℕ
 
-abbrev pub played : Returned → Played
-played r = record { refusal = code_of r.answer; place = r.place; written = r.written }
+abbrev pub returned_of : Returned → Played
+returned_of r = record { refusal = code_of r.answer; place = r.place; written = r.written }
 
 -- the outcome o of calls on the voice v, on a lent output that is left as after
 pub record Plays (o : Outcome) (v : State) (output : List ℤ) (r : Played) (after : List ℤ) : Type 0 where

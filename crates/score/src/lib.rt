@@ -10,7 +10,7 @@ ghost use Rattle.voice.specs.Valid.{Valid};
 ghost use Rattle.record.specs.Record.{fields};
 ghost use Rattle.score.specs.Run.{play_limits};
 ghost use Rattle.score.specs.Opened.{Reads};
-ghost use Rattle.score.specs.Played.{played, PlaysAll, Runs};
+ghost use Rattle.score.specs.Played.{returned_of, PlaysAll, Runs};
 
 use follow::changes::started;
 use loops::carried::after;
@@ -123,7 +123,7 @@ fn follow_all(score: &[u8], output: &mut [i32], progress: &mut Progress) -> Resu
 
 // The run of a score, over an output that it is lent.
 pub fn run(score: &[u8], output: &mut [i32]) -> Played
-    ensures { Runs score.now output.old (played result) output.new }
+    ensures { Runs score.now output.old (returned_of result) output.new }
 {
     let mut progress = Progress {
         place: 0,
