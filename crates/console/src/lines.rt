@@ -2,7 +2,7 @@
 // kept. A line that fills the room is too long, and is passed over up to its line feed.
 ghost use Rattle.std.specs.Prelude.{◌≤◌, length};
 
-use crate::kept::Kept;
+use crate::held::Kept;
 use help::wrong;
 use input::front;
 use print::Printer;

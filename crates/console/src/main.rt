@@ -6,7 +6,7 @@
 ghost use Rattle.std.specs.Prelude.{◌≡◌, length};
 
 mod calls;
-mod kept;
+mod held;
 mod lines;
 mod scores;
 mod shown;
@@ -16,8 +16,8 @@ mod tubes;
 mod turn;
 mod voices;
 
+use held::Kept;
 use input::more;
-use kept::Kept;
 use lines::{Coming, ROOM};
 use print::{Out, Printer};
 use std::io::Stdin;

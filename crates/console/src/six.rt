@@ -1,7 +1,7 @@
 // Lines on the six strings: a call on one of them, and the block of all, answered behind the line's name.
 // Outputs are lent with 77 at each place, bytes with 4d.
 use crate::calls::{call_of, opening_of, returned};
-use crate::kept::KeptStrings;
+use crate::held::KeptStrings;
 use crate::shown::{past, state};
 use crate::start::counted;
 use list::words::Call;

@@ -1,7 +1,7 @@
 // The tube junction that the console keeps: opened, moved, and run a sample at a time.
 ghost use Rattle.tube.specs.Valid.{Valid as Joined};
 
-use crate::kept::KeptJunction;
+use crate::held::KeptJunction;
 use print::Printer;
 use refusal::{Refusal, code};
 use request::Request;

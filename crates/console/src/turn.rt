@@ -1,5 +1,5 @@
 // One line of the text: read, called and answered.
-use crate::kept::{Kept, KeptJunction, KeptStrings, KeptVoice};
+use crate::held::{Kept, KeptJunction, KeptStrings, KeptVoice};
 use crate::start::start;
 use print::Printer;
 use request::kinds::Kind;

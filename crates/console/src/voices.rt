@@ -1,7 +1,7 @@
 // A line on the voice that the console keeps: its call is made, and answered behind the line's name.
 // A block's output is lent with 77 at each place, the bytes of a stored voice with 4d.
 use crate::calls::{call_of, opening_of, returned};
-use crate::kept::KeptVoice;
+use crate::held::KeptVoice;
 use crate::scores::{merge, panel, run};
 use crate::shown::{past, state};
 use crate::start::counted;
