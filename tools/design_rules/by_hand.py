@@ -3,25 +3,16 @@ import collections
 import re
 
 from read import INTEGERS, flat, parts
+from text import closing, whiles
 
 
 def literals(body):
     """Each struct or array literal of a body: its place, its name and its parts."""
     for opened in re.finditer(r"(?<![\w\])&] )(?<!-> )\b([A-Z]\w*)(?:<[^>]*>)? \{", body):
-        depth, k = 0, opened.end() - 1
-        for k in range(opened.end() - 1, len(body)):
-            depth += (body[k] == "{") - (body[k] == "}")
-            if depth == 0:
-                break
-        yield opened.start(), opened.group(1), parts(body[opened.end() : k])
+        yield opened.start(), opened.group(1), parts(body[opened.end() : closing(body, opened.end() - 1) - 1])
     for opened in re.finditer(r"(?:^|[=({,\s])\[(?=[^\]]*,)", body):
         start = body.index("[", opened.start())
-        depth, k = 0, start
-        for k in range(start, len(body)):
-            depth += (body[k] == "[") - (body[k] == "]")
-            if depth == 0:
-                break
-        yield start, "[]", parts(body[start + 1 : k])
+        yield start, "[]", parts(body[start + 1 : closing(body, start) - 1])
 
 
 def copied(function):
@@ -98,13 +89,7 @@ def compared(function):
 
 
 def moved(function):
-    for loop in re.finditer(r"\bwhile [^{]*\{", function.body):
-        depth, k = 0, loop.end() - 1
-        for k in range(loop.end() - 1, len(function.body)):
-            depth += (function.body[k] == "{") - (function.body[k] == "}")
-            if depth == 0:
-                break
-        inside = function.body[loop.end() : k]
+    for loop, inside in whiles(function.body):
         direct = re.search(r"\b\w+\[[^\]]+\] = \w+\[[^\]]+\];", inside)
         through = re.search(r"\blet (\w+) = \w+\[[^\]]+\];\s*\w+\[[^\]]+\] = \1;", inside)
         if direct or through:

@@ -4,6 +4,7 @@ import itertools
 import re
 
 from read import flat
+from text import whiles
 
 OFTEN, TOGETHER = 3, 3
 SLICE = re.compile(r"&(?:'\w+ )?(?:mut )?\[([^;\]\[]+)\]$")
@@ -163,13 +164,7 @@ def parallel(function):
 
 
 def searched(function):
-    for loop in re.finditer(r"\bwhile [^{]*\{", function.body):
-        depth, k = 0, loop.end() - 1
-        for k in range(loop.end() - 1, len(function.body)):
-            depth += (function.body[k] == "{") - (function.body[k] == "}")
-            if depth == 0:
-                break
-        inside = function.body[loop.end() : k]
+    for loop, inside in whiles(function.body):
         counted = re.findall(r"\b(\w+) (?:= \1 \+|\+=)", inside)
         for name in dict.fromkeys(counted):
             if re.search(rf"\bif [^{{]*\{{\s*return {name}(?: \+ \w+)?;", inside):

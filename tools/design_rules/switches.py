@@ -3,6 +3,7 @@ import collections
 import re
 
 from read import flat
+from text import closing
 
 NUMERAL = r"-?\d[\d_]*"
 CONSTANT = r"(?:\w+::)*[A-Z][A-Z0-9_]*\b(?!::)"
@@ -13,12 +14,7 @@ ARM = re.compile(r"\b\w+::\w+(?:\([^)]*\))? => (?:\{\s*(?:let [^;]*;\s*)*)?((?:\
 
 def inside(text, opened):
     """What stands between a brace and the one that closes it."""
-    depth = 0
-    for k in range(opened, len(text)):
-        depth += (text[k] == "{") - (text[k] == "}")
-        if depth == 0:
-            return text[opened + 1 : k]
-    return text[opened + 1 :]
+    return text[opened + 1 : closing(text, opened) - 1]
 
 
 def steps(body):

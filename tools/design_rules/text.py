@@ -72,3 +72,9 @@ def parts(text, separator=","):
 
 def flat(text):
     return re.sub(r"\s+", " ", text).strip()
+
+
+def whiles(body):
+    """Each `while` of a body: where it begins, and the text between its braces."""
+    for loop in re.finditer(r"\bwhile [^{]*\{", body):
+        yield loop, body[loop.end() : closing(body, loop.end() - 1) - 1]
