@@ -1,5 +1,5 @@
--- The kinds that a word names stand in the order of their numbers, from 1 on.
-use Rattle.std.proofs.Common.{◌≡◌, refl, Bool, true, false, ℕ, suc, ◌+◌, ◌<◌, ◌≤◌, List, map, get_or, sym, ap, ◌∙◌, arith}
+-- The kinds that a word names stand in the order of their numbers, from 1 on, as the rows of the table do.
+use Rattle.std.proofs.Common.{◌≡◌, refl, Bool, true, false, ℕ, suc, ◌+◌, ◌-◌, ◌<◌, ◌≤◌, List, map, get_or, sym, ap, ◌∙◌, arith}
 use Rattle.std.proofs.lemmas.Bool.Decides.{Decides-eqb}
 use Rattle.std.proofs.lemmas.List.{get_or-map}
 use Rattle.std.proofs.lemmas.List.FromFn.{get_or-range_with_len}
@@ -10,6 +10,7 @@ use borrow.Author.Count.{below_more}
 use lib.Dec.{eqb}
 use lib.ListN.{length}
 use mathlib.Core.Bool.{false≢true}
+use Rattle.words.specs.Pieces.{cut, past, piece}
 use Rattle.request.specs.declared.kinds.Kind.TheVariants.{Empty}
 use Rattle.request.specs.declared.kinds.TheConstants.{CALLS}
 use Rattle.request.specs.Kinds.{number_of}
@@ -26,6 +27,21 @@ call-number i h =
     let n : 1 + i ≡ suc i = omega arith in
     sym (get_or-map number_of CALLS i Empty 0 (omega (arith, count)))
     ∙ ap (λ (xs : List ℕ). get_or xs i 0) numbers ∙ get_or-range_with_len 1 31 i 0 h ∙ n
+
+-- t is what is left of the table, from the row of the kind at i on
+module _ (t : List ℕ) (i : ℕ) (rows : (j : ℕ) → piece 10 j t ≡ piece 10 (i + j) table) where
+  pub named : {r n : List ℕ} → r ≡ cut 10 t → n ≡ cut 32 r → i < 31
+      → n ≡ name table (number_of (get_or CALLS i Empty))
+  unfolding piece
+  named p q h =
+      let m : i + 0 ≡ number_of (get_or CALLS i Empty) - 1 = omega (arith, call-number i h) in
+      q ∙ ap (cut 32) (p ∙ rows 0 ∙ ap (λ (k : ℕ). piece 10 k table) m)
+
+  pub others : (j : ℕ) → piece 10 j (past 10 t) ≡ piece 10 (i + 1 + j) table
+  unfolding piece
+  others j =
+      let m : i + suc j ≡ i + 1 + j = omega arith in
+      rows (suc j) ∙ ap (λ (k : ℕ). piece 10 k table) m
 
 -- r is whether w is n, the name of the kind at i, and the kinds before it have other names
 module _ (w n : List ℕ) (r : Bool) (i : ℕ) (h : i < 31) (none : (k : ℕ) → 1 ≤ k → k ≤ i → w ≡ name table k → ⊥)

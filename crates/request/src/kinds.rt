@@ -5,7 +5,7 @@ ghost use Rattle.request.specs.Kinds.{number_of};
 ghost use Rattle.request.specs.Table.{table as Table, Named, row, name};
 
 use crate::table::TABLE;
-use words::pieces::{ahead, piece};
+use words::pieces::{after, ahead, piece};
 
 // In the order of the table's rows. Empty is a line with no word, Error one that is none of the others, and Long
 // one that is too long.
@@ -98,14 +98,18 @@ impl Kind {
     }
 }
 
-// The kind of line that a word names.
+// The kind of line that a word names. The rest of the table is carried along, which `Kind::name` would walk from
+// the start for each kind.
 pub fn named(w: &[u8]) -> Kind
     ensures { Named Table w.now (number_of result) }
 {
+    let mut rest: &[u8] = &TABLE;
     for kind in CALLS {
-        if w == kind.name() {
+        let row = ahead(rest, b'\n');
+        if w == ahead(row, b' ') {
             return kind;
         }
+        rest = after(rest, b'\n');
     }
     Kind::Error
 }

@@ -7,7 +7,13 @@ ghost use Rattle.words.specs.Words.{blank, Before, Starts, Stops, FirstWord};
 
 pub mod pieces;
 
-use std::ops::Range;
+// The place of a word: it is the bytes from start up to end, and there is none where the two are equal.
+// Not a `Range`, which is not `Copy`.
+#[derive(Clone, Copy)]
+pub struct Place {
+    pub start: usize,
+    pub end: usize,
+}
 
 // How many bytes stand before the first that is b; all of them where none is.
 // Not an Option: `Before` holds this count where none is too, and its callers cut the text there.
@@ -40,9 +46,12 @@ fn letters(s: &[u8]) -> usize
 }
 
 // The first word of a text.
-pub fn word(s: &[u8]) -> Range<usize>
+pub fn word(s: &[u8]) -> Place
     ensures { FirstWord s.now result.start result.end }
 {
     let start = blanks(s);
-    start..start + letters(&s[start..])
+    Place {
+        start,
+        end: start + letters(&s[start..]),
+    }
 }
