@@ -1,2 +1,3 @@
+mod Joins
 pub mod Texts
 pub mod Printers

@@ -1,4 +1,4 @@
--- A text put where a printer made room, what a call did in other words, and what is printed of a list.
+-- A text put where a printer made room, and what is printed of a list.
 use Rattle.std.proofs.Common.{◌≡◌, ℕ, ◌+◌, ◌<◌, List, [], ◌∷◌, ◌++◌, length, get_or, take, refl, subst, ◌∙◌, arith}
 use Rattle.std.proofs.lemmas.List.{take_more}
 use Rattle.write.specs.Written.{Wrote}
@@ -15,11 +15,6 @@ put {p} {q} {t} {after} {r} k room at w = record {
   room = subst (λ (n : ℕ). MadeRoom (place p.held) n) at room.does.1;
   wrote = subst (λ (b : List ℕ). Wrote t b k after r) room.does.0 w;
 }
-
--- what a call did, said in other words
-pub in_words : {A B : List ℕ → ℕ → List ℕ → ℕ → Type 0} {p q : Printer} → Prints A p q
-    → B p.buffer (place p.held) q.buffer (place q.held) → Prints B p q
-in_words a b = record { does = b; within = a.within; out = a.out }
 
 module _ {X : Type 0} {One : X → List ℕ → ℕ → List ℕ → ℕ → Type 0} where
   pub each_none : (p : Printer) → PrintsEach One [] p p

@@ -12,37 +12,44 @@ impl Printer {
     pub fn number<N: Into<u64>>(&mut self, n: N)
         ensures { (m : ℕ) × N.converts n m × Prints (Number m) self.old self.new }
     {
-        let mut text = [b' '; 21];
-        let end = write::number(&mut text, 1, n.into());
-        self.bytes(&text[..end]);
+        let n = n.into();
+        self.bytes(b" ");
+        if let Some(at) = self.held {
+            self.held = Some(write::number(&mut self.buffer, at, n));
+        }
     }
 
     // A number with a sign, behind a blank.
     pub fn signed<X: Into<i64>>(&mut self, x: X)
         ensures { (y : ℤ) × X.converts x y × Prints (Signed y) self.old self.new }
     {
-        let mut text = [b' '; 22];
-        let end = write::signed(&mut text, 1, x.into());
-        self.bytes(&text[..end]);
+        let x = x.into();
+        self.bytes(b" ");
+        if let Some(at) = self.held {
+            self.held = Some(write::signed(&mut self.buffer, at, x));
+        }
     }
 
     // A number with a sign, on a line.
     pub fn line<X: Into<i64>>(&mut self, x: X)
         ensures { (y : ℤ) × X.converts x y × Prints (Line y) self.old self.new }
     {
-        let mut text = [0u8; 22];
-        let last = write::signed(&mut text, 0, x.into());
-        let end = write::bytes(&mut text, last, b"\n");
-        self.bytes(&text[..end]);
+        let x = x.into();
+        self.room();
+        if let Some(at) = self.held {
+            let last = write::signed(&mut self.buffer, at, x);
+            self.held = Some(write::bytes(&mut self.buffer, last, b"\n"));
+        }
     }
 
     // A byte in two hexadecimal digits, behind a blank.
     pub fn hex(&mut self, b: u8)
         ensures { Prints (Hex b) self.old self.new }
     {
-        let mut text = [b' '; 3];
-        let end = write::hex(&mut text, 1, b);
-        self.bytes(&text[..end]);
+        self.bytes(b" ");
+        if let Some(at) = self.held {
+            self.held = Some(write::hex(&mut self.buffer, at, b));
+        }
     }
 }
 

@@ -3,7 +3,7 @@
 // A buffer and a place, and no struct: Wrote, Spelled and Signed speak of the two.
 #![tactic(auto)]
 
-ghost use Rattle.std.specs.Prelude.{◌/◌, ◌%◌, [], ◌∷◌};
+ghost use Rattle.std.specs.Prelude.{◌/◌, ◌%◌, ◌<◌, [], ◌∷◌, ◌≡◌};
 ghost use Rattle.io.specs.Digits.{hex_digit_ascii};
 ghost use Rattle.write.specs.Written.{Wrote, Spelled, Signed};
 
@@ -39,13 +39,19 @@ pub fn signed(buffer: &mut [u8], at: usize, x: i64) -> usize
     number(buffer, start, x.unsigned_abs())
 }
 
-// A byte in two hexadecimal digits. Not number with a base: io's hex and its decimal take arrays of two lengths,
-// and have two clauses.
+// A hexadecimal digit, by a table: where it is worked out, as io's hex does, a printed file takes a third more
+// instructions.
+fn digit(n: u8) -> u8
+    requires { n < 16 }
+    ensures { result ≡ hex_digit_ascii n }
+{
+    b"0123456789abcdef"[n as usize]
+}
+
+// A byte in two hexadecimal digits.
 pub fn hex(buffer: &mut [u8], at: usize, b: u8) -> usize
     ensures { Wrote (hex_digit_ascii (b / 16) ∷ hex_digit_ascii (b % 16) ∷ []) buffer.old at
         buffer.new result }
 {
-    let mut digits = [0u8; 16];
-    let k = io::hex(b as u64, 2, &mut digits);
-    bytes(buffer, at, &digits[..k])
+    bytes(buffer, at, &[digit(b / 16), digit(b % 16)])
 }
