@@ -2,7 +2,7 @@
 // line's name. The record's nine numbers are lent with 77 at each place.
 #![tactic(auto)]
 
-ghost use Rattle.std.specs.Prelude.{◌≤◌};
+ghost use Rattle.std.specs.Prelude.{◌≡◌, ◌≤◌};
 ghost use Rattle.print.specs.Printer.{place};
 
 mod recordings;
@@ -15,44 +15,42 @@ use request::Request;
 use request::kinds::Kind;
 use request::lists::{bytes_room, read_list};
 use thiran::Taps;
+use values::{number, parts, taps};
 
 fn coefficients(out: &mut Printer, l: Request)
-    ensures { place out.new.held ≤ 4097 }
+    ensures within { place out.new.held ≤ 4097 }
+    ensures out { out.new.out ≡ out.old.out }
 {
     let [order, delay, ..] = l.numbers;
     let answer = thiran::coefficients(order, delay);
-    let taps = answer.unwrap_or(Taps {
-        a1: 0,
-        a2: 0,
-        a3: 0,
-    });
+    let Taps { a1, a2, a3 } = taps(answer);
     out.number(code(answer));
-    out.signed(taps.a1);
-    out.signed(taps.a2);
-    out.signed(taps.a3);
+    out.signed(a1);
+    out.signed(a2);
+    out.signed(a3);
 }
 
 // What a routine returned that gives one number, 0 where it is refused.
 fn counted(out: &mut Printer, answer: Result<u32, Refusal>)
-    ensures { place out.new.held ≤ 4097 }
+    ensures within { place out.new.held ≤ 4097 }
+    ensures out { out.new.out ≡ out.old.out }
 {
-    out.numbers(&[code(answer), answer.unwrap_or(0)]);
+    out.numbers(&[code(answer), number(answer)]);
 }
 
 fn note(out: &mut Printer, l: Request)
-    ensures { place out.new.held ≤ 4097 }
+    ensures within { place out.new.held ≤ 4097 }
+    ensures out { out.new.out ≡ out.old.out }
 {
     let [order, rate, key, ..] = l.numbers;
     let answer = pitch::note(order, rate, key);
-    let parts = answer.unwrap_or(Parts {
-        length: 0,
-        delay: 0,
-    });
-    out.numbers(&[code(answer), parts.length, parts.delay]);
+    let Parts { length, delay } = parts(answer);
+    out.numbers(&[code(answer), length, delay]);
 }
 
 fn draw(out: &mut Printer, l: Request)
-    ensures { place out.new.held ≤ 4097 }
+    ensures within { place out.new.held ≤ 4097 }
+    ensures out { out.new.out ≡ out.old.out }
 {
     let [state, ..] = l.numbers;
     let r = noise::draw(state);
@@ -60,8 +58,12 @@ fn draw(out: &mut Printer, l: Request)
     out.number(r.state);
 }
 
+// Compiled apart, as `gather` and the recordings are: compiled in, its room made the stack of every line's answer larger,
+// and each page of a stack is touched anew.
+#[inline(never)]
 fn record(out: &mut Printer, l: Request)
-    ensures { place out.new.held ≤ 4097 }
+    ensures within { place out.new.held ≤ 4097 }
+    ensures out { out.new.out ≡ out.old.out }
 {
     let mut room = bytes_room();
     let given = read_list(l.list, &mut room).unwrap_or(&[]);
@@ -71,8 +73,10 @@ fn record(out: &mut Printer, l: Request)
     out.number(rest.len() as u64);
 }
 
+#[inline(never)]
 fn gather(out: &mut Printer, l: Request)
-    ensures { place out.new.held ≤ 4097 }
+    ensures within { place out.new.held ≤ 4097 }
+    ensures out { out.new.out ≡ out.old.out }
 {
     let [start, ..] = l.numbers;
     let mut room = bytes_room();
@@ -82,7 +86,8 @@ fn gather(out: &mut Printer, l: Request)
 
 // What a line that asks for one of them is answered by; a line that is wrong asks for nothing.
 pub fn asked(out: &mut Printer, l: Request)
-    ensures { place out.old.held ≤ 4097 → place out.new.held ≤ 4097 }
+    ensures within { place out.old.held ≤ 4097 → place out.new.held ≤ 4097 }
+    ensures out { out.new.out ≡ out.old.out }
 {
     let [a, b, c, ..] = l.numbers;
     match l.kind {

@@ -5,6 +5,7 @@ use print::Printer;
 use refusal::{Refusal, code};
 use request::Request;
 use request::kinds::Kind;
+use values::number;
 use voice::{Pluck, Tuning};
 
 // What a line that opens a voice opens it with.
@@ -46,6 +47,6 @@ pub fn call_of(l: Request) -> Option<Call> {
 pub fn returned(out: &mut Printer, call: Call, answer: Result<u32, Refusal>) {
     out.number(code(answer));
     if let Call::Instant(_) = call {
-        out.number(answer.unwrap_or(0));
+        out.number(number(answer));
     }
 }

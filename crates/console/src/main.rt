@@ -52,12 +52,13 @@ fn answer(from: Stdin, kept: &mut Kept, out: &mut Printer, room: &mut [u8; ROOM]
 }
 
 fn main(rt: HostRuntime) {
+    // First: behind the others LLVM fills it with zeros twice.
+    let mut room = line_room();
     let mut out = Printer::new(Out {
         to: rt.stdout(),
         told: rt.stderr(),
         program: b"console",
     });
     let mut kept = Kept::new();
-    let mut room = line_room();
     answer(rt.stdin(), &mut kept, &mut out, &mut room);
 }

@@ -1,5 +1,7 @@
 // Scores that a line lists, run and merged, and a stored voice on the panel, each called and printed behind the
 // line's name. A run's output is lent with 77 at each place, the bytes of a merge with 4d.
+use crate::start::counted;
+use load::Shown;
 use print::Printer;
 use refusal::code;
 use request::Request;
@@ -28,9 +30,7 @@ pub fn merge(out: &mut Printer, l: Request) {
     let other = read_list(second, &mut second_room).unwrap_or(&[]);
     let mut lent = [77u8; 32768];
     let bytes = &mut lent[..l.places];
-    let answer = merge::merge(one, other, bytes);
-    out.number(code(answer));
-    out.number(answer.unwrap_or(0) as u64);
+    counted(out, merge::merge(one, other, bytes));
     out.hexes(bytes);
 }
 
@@ -38,8 +38,10 @@ pub fn merge(out: &mut Printer, l: Request) {
 pub fn panel(out: &mut Printer, l: Request) {
     let mut room = bytes_room();
     let answer = load::panel(read_list(l.list, &mut room).unwrap_or(&[]));
-    match answer {
-        Ok(shown) => out.numbers(&[0, shown.length, shown.delay, shown.loss]),
-        Err(refusal) => out.numbers(&[refusal.number(), 1, 4_096, 0]),
-    }
+    let Shown {
+        length,
+        delay,
+        loss,
+    } = values::panel(answer);
+    out.numbers(&[code(answer), length, delay, loss]);
 }

@@ -52,7 +52,8 @@ impl KeptStrings {
         strings::stores::load(&mut self.heads, &mut self.lines, string, bytes)
     }
 
-    // A string stored.
+    // A string stored. Compiled apart, as the voice's is.
+    #[inline(never)]
     fn store(&self, out: &mut Printer, string: u32, l: Request) {
         let mut lent = [77u8; 32768];
         let bytes = &mut lent[..l.places];

@@ -6,6 +6,7 @@ use refusal::{Refusal, code};
 use request::Request;
 use request::kinds::Kind;
 use request::next::split_word;
+use values::size;
 
 // The name of a line that is right; `error`, the number and what was expected of one that is wrong.
 pub fn start(out: &mut Printer, s: &[u8], index: u64, l: Request) {
@@ -27,5 +28,5 @@ pub fn start(out: &mut Printer, s: &[u8], index: u64, l: Request) {
 // What a call returned that has a count beside its number, 0 where it was refused.
 pub fn counted(out: &mut Printer, answer: Result<usize, Refusal>) {
     out.number(code(answer));
-    out.number(answer.unwrap_or(0) as u64);
+    out.number(size(answer) as u64);
 }

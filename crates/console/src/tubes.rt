@@ -9,6 +9,7 @@ use request::kinds::Kind;
 use request::pairs::two_samples;
 use tube::Junction;
 use tube::memory::{pack, unpack};
+use values::outputs;
 
 impl KeptJunction {
     // The junction of a refused opening.
@@ -42,18 +43,13 @@ impl KeptJunction {
     // One sample from each side, and what goes to the right and to the left, 0 where they are refused.
     fn sample(&mut self, out: &mut Printer, l: Request) {
         let (a, b) = two_samples(l.list).unwrap_or((0, 0));
-        match tube::sample::sample(unpack(&self.words), a, b) {
-            Ok(step) => {
-                self.keep(step.junction);
-                out.number(0u32);
-                out.signed(step.right);
-                out.signed(step.left);
-            }
-            Err(refusal) => {
-                out.number(refusal.number());
-                out.numbers(&[0; 2]);
-            }
+        let junction = unpack(&self.words);
+        let answer = tube::sample::sample(junction, a, b);
+        if let Ok(step) = answer {
+            self.keep(step.junction);
         }
+        out.number(code(answer));
+        out.samples(&outputs(junction, answer));
     }
 
     // The answer to a line that asks for a call on the junction.

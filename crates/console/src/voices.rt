@@ -13,6 +13,7 @@ use refusal::{Refusal, code};
 use request::Request;
 use request::kinds::Kind;
 use request::lists::{bytes_room, read_list};
+use values::head_after;
 
 impl KeptVoice {
     // The voice of a refused opening.
@@ -45,7 +46,7 @@ impl KeptVoice {
         let mut lent = [77i32; 32768];
         let output = &mut lent[..l.places];
         let answer = block::block(&mut self.line, self.head, input, output);
-        self.head = answer.unwrap_or(self.head);
+        self.head = head_after(self.head, answer);
         out.number(code(answer));
         out.samples(output);
     }
@@ -59,7 +60,9 @@ impl KeptVoice {
         loaded.answer
     }
 
-    // The answer to a line that asks to store the voice.
+    // The answer to a line that asks to store the voice. Compiled apart: compiled in, its room made the stack of every line's
+    // answer larger.
+    #[inline(never)]
     fn store(&self, out: &mut Printer, l: Request) {
         let mut lent = [77u8; 32768];
         let bytes = &mut lent[..l.places];

@@ -6,14 +6,11 @@ use noise::Noise;
 use pitch::Parts;
 use refusal::code;
 use thiran::Taps;
+use values::{number, parts, taps};
 
 fn coefficients(rt: &HostRuntime, order: u32, d: u32) {
     let answer = thiran::coefficients(order, d);
-    let Taps { a1, a2, a3 } = answer.unwrap_or(Taps {
-        a1: 0,
-        a2: 0,
-        a3: 0,
-    });
+    let Taps { a1, a2, a3 } = taps(answer);
     let refusal = code(answer);
     let _ = println!(rt; "coefficients {order} {d}: {refusal} {a1} {a2} {a3}");
 }
@@ -21,16 +18,13 @@ fn coefficients(rt: &HostRuntime, order: u32, d: u32) {
 fn length(rt: &HostRuntime, order: u32, d: u32, threshold: u32) {
     let answer = allpass::effective_length(order, d, threshold);
     let refusal = code(answer);
-    let length = answer.unwrap_or(0);
+    let length = number(answer);
     let _ = println!(rt; "length {order} {d} {threshold}: {refusal} {length}");
 }
 
 fn note(rt: &HostRuntime, order: u32, rate: u32, m: u32) {
     let answer = pitch::note(order, rate, m);
-    let Parts { length, delay } = answer.unwrap_or(Parts {
-        length: 0,
-        delay: 0,
-    });
+    let Parts { length, delay } = parts(answer);
     let refusal = code(answer);
     let _ = println!(rt; "note {order} {rate} {m}: {refusal} {length} {delay}");
 }
