@@ -44,7 +44,10 @@ pub enum Choice {
     Second(u32),
 }
 
-// Whether the first 8 bytes are the same; a missing byte is unlike any present one.
+// Whether the first 8 bytes are the same; a missing byte is unlike any present one. Compiled apart, as `opening_course` is:
+// these stand before the loops of `render` in the archive, and 16 bytes there decide rows of bench/floor
+// (docs/PERFORMANCE.md).
+#[inline(never)]
 fn same_header(a: &[u8], b: &[u8]) -> bool
     ensures { SameHeader a.now b.now result }
 {
@@ -54,6 +57,7 @@ fn same_header(a: &[u8], b: &[u8]) -> bool
 }
 
 // The course that an opening starts.
+#[inline(never)]
 fn opening_course(o: Opening) -> Course
     ensures { outline_of result ≡ in_force o.tuning.length o.tuning.delay }
 {
