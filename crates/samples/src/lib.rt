@@ -61,10 +61,13 @@ pub fn is_sample(x: Value) -> bool
     (-8_388_607..=8_388_607).contains(&x.n)
 }
 
-// Makes the output equal to the input, which is as long.
+// Makes the output equal to the input, which is as long. By a loop: with std's `copy_from_slice` the archive for
+// C asks its host for memmove, beside memcpy and memset.
 pub fn copy(input: &[i32], output: &mut [i32])
     requires { length input.now ≡ length output.old }
     ensures { output.new ≡ input.now }
 {
-    output.copy_from_slice(input);
+    for (i, y) in output.iter_mut().enumerate() {
+        *y = input[i];
+    }
 }
