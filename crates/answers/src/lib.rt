@@ -58,6 +58,17 @@ fn draw(out: &mut Printer, l: Request)
     out.number(r.state);
 }
 
+// Reads a record from the bytes, and prints its numbers and how many bytes are left after it.
+fn taken(out: &mut Printer, given: &[u8])
+    ensures within { place out.new.held ≤ 4097 }
+    ensures out { out.new.out ≡ out.old.out }
+{
+    let mut fields = [77u32; 9];
+    let rest = record::read_record(given, &mut fields);
+    out.numbers(&fields);
+    out.number(rest.len() as u64);
+}
+
 // Compiled apart, as `gather` and the recordings are: compiled in, its room made the stack of every line's answer larger,
 // and each page of a stack is touched anew.
 #[inline(never)]
@@ -66,11 +77,7 @@ fn record(out: &mut Printer, l: Request)
     ensures out { out.new.out ≡ out.old.out }
 {
     let mut room = bytes_room();
-    let given = read_list(l.list, &mut room).unwrap_or(&[]);
-    let mut fields = [77u32; 9];
-    let rest = record::read_record(given, &mut fields);
-    out.numbers(&fields);
-    out.number(rest.len() as u64);
+    taken(out, read_list(l.list, &mut room).unwrap_or(&[]));
 }
 
 #[inline(never)]

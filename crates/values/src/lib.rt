@@ -1,5 +1,5 @@
 // What a call returned beside its number, for the programs that print it: where the call was refused, what its
-// definition has there. Contracts cite the definitions of the routines' own crates.
+// definition has there. Contracts cite the routines' own definitions, and refusal's `beside`.
 #![tactic(auto)]
 
 ghost use Rattle.std.specs.Prelude.{◌≡◌, [], ◌∷◌};
