@@ -58,11 +58,12 @@ fn draw(out: &mut Printer, l: Request)
     out.number(r.state);
 }
 
-// Reads a record from the bytes, and prints its numbers and how many bytes are left after it.
-fn taken(out: &mut Printer, given: &[u8])
+// Reads a record from the bytes that a line lists, and prints its numbers and how many bytes are left after it.
+fn taken(out: &mut Printer, list: &[u8], room: &mut [u8])
     ensures within { place out.new.held ≤ 4097 }
     ensures out { out.new.out ≡ out.old.out }
 {
+    let given = read_list(list, room).unwrap_or(&[]);
     let mut fields = [77u32; 9];
     let rest = record::read_record(given, &mut fields);
     out.numbers(&fields);
@@ -76,8 +77,7 @@ fn record(out: &mut Printer, l: Request)
     ensures within { place out.new.held ≤ 4097 }
     ensures out { out.new.out ≡ out.old.out }
 {
-    let mut room = bytes_room();
-    taken(out, read_list(l.list, &mut room).unwrap_or(&[]));
+    taken(out, l.list, &mut bytes_room());
 }
 
 #[inline(never)]
