@@ -58,8 +58,9 @@ fn draw(out: &mut Printer, l: Request)
     out.number(r.state);
 }
 
-// Reads a record from the bytes that a line lists, and prints its numbers and how many bytes are left after it.
-fn taken(out: &mut Printer, list: &[u8], room: &mut [u8])
+// Reads a record from the list and prints its numbers, then how many bytes follow it. The caller lends the
+// room: with its 349,526 zeros in scope the prover gives up on a slice of it.
+fn print_record(out: &mut Printer, list: &[u8], room: &mut [u8])
     ensures within { place out.new.held ≤ 4097 }
     ensures out { out.new.out ≡ out.old.out }
 {
@@ -70,14 +71,14 @@ fn taken(out: &mut Printer, list: &[u8], room: &mut [u8])
     out.number(rest.len() as u64);
 }
 
-// Compiled apart, as `gather` and the recordings are: compiled in, its room made the stack of every line's answer larger,
-// and each page of a stack is touched anew.
+// Not inlined, like `gather` and the recordings: inlined, its room would enlarge the stack frame of every
+// answer, and each page of the stack costs a first touch.
 #[inline(never)]
 fn record(out: &mut Printer, l: Request)
     ensures within { place out.new.held ≤ 4097 }
     ensures out { out.new.out ≡ out.old.out }
 {
-    taken(out, l.list, &mut bytes_room());
+    print_record(out, l.list, &mut bytes_room());
 }
 
 #[inline(never)]

@@ -61,8 +61,8 @@ pub fn is_sample(x: Value) -> bool
     (-8_388_607..=8_388_607).contains(&x.n)
 }
 
-// Makes the output equal to the input, which is as long. By a loop: with std's `copy_from_slice` the archive for
-// C asks its host for memmove, beside memcpy and memset.
+// Copies the input to the output, which has the same length. This is a loop because std's `copy_from_slice`
+// would make the C archive depend on memmove.
 pub fn copy(input: &[i32], output: &mut [i32])
     requires { length input.now ≡ length output.old }
     ensures { output.new ≡ input.now }

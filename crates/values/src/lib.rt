@@ -1,5 +1,5 @@
-// What a call returned beside its number, for the programs that print it: where the call was refused, what its
-// definition has there. Contracts cite the routines' own definitions, and refusal's `beside`.
+// What a call returns beside its number, for the programs to print. For a refused call these are the values
+// of its definition. Contracts cite the routines' own definitions, and `beside` of crate refusal.
 #![tactic(auto)]
 
 ghost use Rattle.std.specs.Prelude.{◌≡◌, [], ◌∷◌};
